@@ -1,0 +1,1 @@
+// Mathematics only: the definitions stand in specs/, what is shown of them in proofs/.
