@@ -1,0 +1,128 @@
+-- Lists made by a rule: read, compared and counted entry by entry.
+-- Assumes nothing.
+use mathlib.Core.Path.{_≡_, refl, sym, ap, ap₂, _∙_}
+use mathlib.Core.Bool.{Bool, true, false}
+use mathlib.Core.List.{List, [], _∷_}
+use Prim.Native.Nat.{ℕ, zero, suc, _+_, _*_, _≤_, _<_}
+use native.Mathlib.Nat.{mul-zero, mul-add, not-suc-le-zero, le-of-suc-le-suc}
+use native.Mathlib.Omega.{arith}
+use lib.ListN.{length, getD, List·getD-eq-default}
+use lib.Seq.{ext-getD}
+use Rattle.algebra.specs.Tables.{tabFrom, tab, num, ones, sum, count, total}
+
+tabFrom-suc {ℓ} : {A : Type ℓ} (a n : ℕ) (f : ℕ → A) → tabFrom (suc a) n f ≡ tabFrom a n (λ i. f (suc i))
+unfolding tabFrom
+tabFrom-suc a zero f = refl
+tabFrom-suc a (suc n) f = ap (λ l. f (suc a) ∷ l) (tabFrom-suc (suc a) n f)
+
+pub tab-zero {ℓ} : {A : Type ℓ} (f : ℕ → A) → tab 0 f ≡ []
+unfolding tab tabFrom
+tab-zero f = refl
+
+-- the first entry and the others: what every proof below goes by
+pub tab-suc {ℓ} : {A : Type ℓ} (n : ℕ) (f : ℕ → A) → tab (suc n) f ≡ f 0 ∷ tab n (λ i. f (suc i))
+unfolding tab tabFrom
+tab-suc n f = ap (λ l. f 0 ∷ l) (tabFrom-suc 0 n f)
+
+pub tab-length {ℓ} : {A : Type ℓ} (n : ℕ) (f : ℕ → A) → length (tab n f) ≡ n
+tab-length zero f = ap length (tab-zero f)
+tab-length (suc n) f = ap length (tab-suc n f) ∙ ap suc (tab-length n (λ i. f (suc i)))
+
+pub tab-at {ℓ} : {A : Type ℓ} (n : ℕ) (f : ℕ → A) (i : ℕ) (d : A) → i < n → getD (tab n f) i d ≡ f i
+tab-at zero f i d h = absurd (not-suc-le-zero h)
+tab-at (suc n) f zero d h = ap (λ l. getD l 0 d) (tab-suc n f)
+tab-at (suc n) f (suc i) d h = ap (λ l. getD l (suc i) d) (tab-suc n f) ∙ tab-at n (λ i. f (suc i)) i d (le-of-suc-le-suc h)
+
+pub tab-past {ℓ} : {A : Type ℓ} (n : ℕ) (f : ℕ → A) (i : ℕ) (d : A) → n ≤ i → getD (tab n f) i d ≡ d
+tab-past n f i d h = List·getD-eq-default (tab n f) d (omega (arith, tab-length n f))
+
+-- a list of n entries is the table of a rule that gives them
+pub tab-is {ℓ} : {A : Type ℓ} (n : ℕ) (f : ℕ → A) (l : List A) (d : A) → length l ≡ n → ((i : ℕ) → i < n → f i ≡ getD l i d) → tab n f ≡ l
+tab-is n f l d e h =
+    ext-getD d (tab n f) l (tab-length n f ∙ sym e)
+    (λ i hi. let hn : i < n = omega (arith, tab-length n f) in tab-at n f i d hn ∙ h i hn)
+
+pub tab-ext {ℓ} : {A : Type ℓ} (n : ℕ) (f g : ℕ → A) → ((i : ℕ) → i < n → f i ≡ g i) → tab n f ≡ tab n g
+tab-ext zero f g h = tab-zero f ∙ sym (tab-zero g)
+tab-ext (suc n) f g h =
+    tab-suc n f
+    ∙ ap₂ _∷_ (h 0 (omega arith)) (tab-ext n (λ i. f (suc i)) (λ i. g (suc i)) (λ i hi. h (suc i) (omega arith)))
+    ∙ sym (tab-suc n g)
+
+-- ---- counted
+
+count-suc : (n : ℕ) (p : ℕ → Bool) → count (suc n) p ≡ num (p 0) + count n (λ i. p (suc i))
+unfolding ones
+count-suc n p = ap ones (tab-suc n p)
+
+count-none : (p : ℕ → Bool) → count 0 p ≡ 0
+unfolding ones
+count-none p = ap ones (tab-zero p)
+
+total-suc : (n : ℕ) (f : ℕ → ℕ) → total (suc n) f ≡ f 0 + total n (λ i. f (suc i))
+unfolding sum
+total-suc n f = ap sum (tab-suc n f)
+
+total-none : (f : ℕ → ℕ) → total 0 f ≡ 0
+unfolding sum
+total-none f = ap sum (tab-zero f)
+
+-- a count is the sum of ones
+pub count-total : (n : ℕ) (p : ℕ → Bool) → count n p ≡ total n (λ i. num (p i))
+count-total zero p = count-none p ∙ sym (total-none (λ i. num (p i)))
+count-total (suc n) p = count-suc n p ∙ ap (λ m. num (p 0) + m) (count-total n (λ i. p (suc i))) ∙ sym (total-suc n (λ i. num (p i)))
+
+-- sums compare term by term, also where one is scaled
+pub total-mono : (c n : ℕ) (f g : ℕ → ℕ) → ((i : ℕ) → i < n → c * f i ≤ g i) → c * total n f ≤ total n g
+total-mono c zero f g h = let e : c * total 0 f ≡ 0 = ap (λ m. c * m) (total-none f) ∙ mul-zero c in omega arith
+total-mono c (suc n) f g h =
+    let here : c * f 0 ≤ g 0 = h 0 (omega arith) in
+    let there : c * total n (λ i. f (suc i)) ≤ total n (λ i. g (suc i)) =
+    total-mono c n (λ i. f (suc i)) (λ i. g (suc i)) (λ i hi. h (suc i) (omega arith)) in
+    let e : c * total (suc n) f ≡ c * f 0 + c * total n (λ i. f (suc i)) =
+    ap (λ m. c * m) (total-suc n f) ∙ mul-add c (f 0) (total n (λ i. f (suc i))) in
+    omega (arith, total-suc n g)
+
+pub total-ext : (n : ℕ) (f g : ℕ → ℕ) → ((i : ℕ) → i < n → f i ≡ g i) → total n f ≡ total n g
+total-ext n f g h = ap sum (tab-ext n f g h)
+
+pub count-ext : (n : ℕ) (p q : ℕ → Bool) → ((i : ℕ) → i < n → p i ≡ q i) → count n p ≡ count n q
+count-ext n p q h = ap ones (tab-ext n p q h)
+
+pub count-mono : (n : ℕ) (p q : ℕ → Bool) → ((i : ℕ) → i < n → num (p i) ≤ num (q i)) → count n p ≤ count n q
+count-mono n p q h =
+    let m = total-mono 1 n (λ i. num (p i)) (λ i. num (q i)) (λ i hi. let k = h i hi in omega arith) in
+    omega (arith, count-total n p, count-total n q)
+
+pub total-zero : (n : ℕ) (f : ℕ → ℕ) → total n f ≡ 0 → (i : ℕ) → i < n → f i ≡ 0
+total-zero zero f e i h = absurd (not-suc-le-zero h)
+total-zero (suc n) f e zero h = omega (arith, total-suc n f)
+total-zero (suc n) f e (suc i) h =
+    total-zero n (λ i. f (suc i)) (omega (arith, total-suc n f)) i (le-of-suc-le-suc h)
+
+pub zero-total : (n : ℕ) (f : ℕ → ℕ) → ((i : ℕ) → i < n → f i ≡ 0) → total n f ≡ 0
+zero-total zero f h = total-none f
+zero-total (suc n) f h =
+    let e : f 0 ≡ 0 = h 0 (omega arith) in
+    let r : total n (λ i. f (suc i)) ≡ 0 = zero-total n (λ i. f (suc i)) (λ i hi. h (suc i) (omega arith)) in
+    omega (arith, total-suc n f)
+
+pub num-zero : {b : Bool} → num b ≡ 0 → b ≡ false
+num-zero {b = true} e = absurd (omega arith)
+num-zero {b = false} e = refl
+
+-- nothing is counted exactly if every test fails
+pub count-zero : (n : ℕ) (p : ℕ → Bool) → count n p ≡ 0 → (i : ℕ) → i < n → p i ≡ false
+count-zero n p e i h = num-zero (total-zero n (λ i. num (p i)) (sym (count-total n p) ∙ e) i h)
+
+pub zero-count : (n : ℕ) (p : ℕ → Bool) → ((i : ℕ) → i < n → p i ≡ false) → count n p ≡ 0
+zero-count n p h = count-total n p ∙ zero-total n (λ i. num (p i)) (λ i hi. ap num (h i hi))
+
+pub ones-le : (w : List Bool) → ones w ≤ length w
+unfolding ones
+ones-le [] = omega arith
+ones-le (true ∷ w) = omega (arith, ones-le w)
+ones-le (false ∷ w) = omega (arith, ones-le w)
+
+pub count-le : (n : ℕ) (p : ℕ → Bool) → count n p ≤ n
+count-le n p = omega (arith, ones-le (tab n p), tab-length n p)

@@ -1,0 +1,47 @@
+-- Document 01, "Frame and bytes": the frame.
+use mathlib.Core.Bool.{Bool, true, false, not}
+use mathlib.Core.List.{List, []}
+use Prim.Native.Nat.{ℕ, _+_}
+use lib.Dec.{eqb}
+use lib.ListN.{getD}
+use Rattle.algebra.specs.Tables.{tab, count}
+use Rattle.algebra.specs.Words.{Word, bit}
+use Rattle.rules.specs.Words.{dataBits, isCodeword, encodeWord}
+
+-- a square of bits, row by row
+abbrev pub Frame : Type 0
+Frame = List Word
+
+unfoldable pub row : Frame → ℕ → Word
+row f i = getD f i []
+
+-- bit j of row i
+abbrev pub cell : Frame → ℕ → ℕ → Bool
+cell f i j = bit (row f i) j
+
+-- columns made rows
+unfoldable pub turned : ℕ → Frame → Frame
+turned n f = tab n (λ j. tab n (λ i. cell f i j))
+
+-- how many rows, and how many columns, "are not codewords"
+unfoldable pub badRows : ℕ → Frame → ℕ
+badRows n f = count n (λ i. not (isCodeword n (row f i)))
+
+unfoldable pub badColumns : ℕ → Frame → ℕ
+badColumns n f = badRows n (turned n f)
+
+-- "A frame has n rows of n bits, every row and every column a codeword."
+unfoldable pub isFrame : ℕ → Frame → Bool
+isFrame n f = eqb (badRows n f + badColumns n f) 0
+
+-- "Data is k rows of k bits, kept in the frame's upper left corner."
+unfoldable pub corner : ℕ → Frame → Frame
+corner k f = tab k (λ i. tab k (λ j. cell f i j))
+
+-- the k rows encoded, then each of the n columns that they make
+unfoldable pub rowsFirst : ℕ → Frame → Frame
+rowsFirst n d = turned n (tab n (λ j. encodeWord (tab (dataBits n) (λ i. bit (encodeWord (row d i)) j))))
+
+-- the same with rows and columns changed over
+unfoldable pub columnsFirst : ℕ → Frame → Frame
+columnsFirst n d = turned n (rowsFirst n (turned (dataBits n) d))

@@ -1,0 +1,6 @@
+-- Document 01, in its own order. Read the files in this order.
+pub mod Words
+pub mod Frames
+pub mod Bits
+pub mod Passes
+pub mod Numbers

@@ -1,0 +1,151 @@
+-- Document 01, "Numbers returned, and what stands in the output": each entry point from its arguments, what the lent output held
+-- included, to what is said and what the output holds then.
+use mathlib.Core.Bool.{Bool, true, false, not, _&&_}
+use mathlib.Core.List.{List, []}
+use Prim.Native.Nat.{ℕ, zero, suc, _*_}
+use lib.Dec.{eqb, leb, ltb}
+use lib.ListN.{length, take, drop}
+use Rattle.algebra.specs.Words.{Word}
+use Rattle.rules.specs.Words.{dataBits, Answer, codeword, onePlace, twoPlaces, beyond, answer, mend}
+use Rattle.rules.specs.Frames.{corner, isFrame, rowsFirst}
+use Rattle.rules.specs.Bits.{rowBytes, squareBytes, wordOf, frameOf, wordBytes, bytesOf, sparesSet}
+use Rattle.rules.specs.Passes.{Ending, clean, repaired, stuck, spent, Outcome, decoded}
+
+abbrev pub pick {ℓ} : {A : Type ℓ} → Bool → A → A → A
+pick true x y = x
+pick false x y = y
+
+-- "n is not 18..256"
+abbrev pub outside : ℕ → Bool
+outside n = not (leb 18 n && leb n 256)
+
+-- "allowance is not 1..32"
+abbrev pub notAllowed : ℕ → Bool
+notAllowed a = not (leb 1 a && leb a 32)
+
+abbrev pub notLong : List ℕ → ℕ → Bool
+notLong s l = not (eqb (length s) l)
+
+abbrev pub frameBytes : ℕ → ℕ
+frameBytes n = squareBytes n
+
+abbrev pub dataBytes : ℕ → ℕ
+dataBytes n = squareBytes (dataBits n)
+
+-- ---- Encoding: the number, and the output
+
+unfoldable pub encodeNumber : ℕ → List ℕ → List ℕ → ℕ
+encodeNumber n input output =
+    pick (outside n) 1
+    (pick (notLong input (dataBytes n)) 2
+    (pick (notLong output (frameBytes n)) 3 (pick (not (eqb (sparesSet (dataBits n) input) 0)) 5 0)))
+
+unfoldable pub encodeOutput : ℕ → List ℕ → List ℕ → List ℕ
+encodeOutput n input output =
+    pick (eqb (encodeNumber n input output) 0) (bytesOf n (rowsFirst n (frameOf (dataBits n) input))) output
+
+-- ---- Reading data: the number, and the output
+
+unfoldable pub readNumber : ℕ → List ℕ → List ℕ → ℕ
+readNumber n input output =
+    pick (outside n) 1
+    (pick (notLong input (frameBytes n)) 2
+    (pick (notLong output (dataBytes n)) 3 (pick (not (isFrame n (frameOf n input))) 6 0)))
+
+unfoldable pub readOutput : ℕ → List ℕ → List ℕ → List ℕ
+readOutput n input output =
+    pick (eqb (readNumber n input output) 0) (bytesOf (dataBits n) (corner (dataBits n) (frameOf n input))) output
+
+-- ---- Decoding
+
+pub data Decoded : Type 0 where
+  refused : ℕ → Decoded
+  -- passes, flips, rows, columns
+  ended : Ending → ℕ → ℕ → ℕ → ℕ → Decoded
+
+unfoldable pub decodeRefusal : ℕ → ℕ → List ℕ → List ℕ → ℕ
+decodeRefusal n allowance input output =
+    pick (outside n) 1
+    (pick (notLong input (frameBytes n)) 2 (pick (notLong output (frameBytes n)) 3 (pick (notAllowed allowance) 4 0)))
+
+abbrev pub told : Outcome → Decoded
+told o = ended (o .ending) (o .passes) (o .flips) (o .rows) (o .columns)
+
+unfoldable pub decodeSaid : ℕ → ℕ → List ℕ → List ℕ → Decoded
+decodeSaid n allowance input output =
+    let r : ℕ = decodeRefusal n allowance input output in
+    pick (eqb r 0) (told (decoded n allowance (frameOf n input))) (refused r)
+
+-- "the frame" for clean and repaired, "the received bytes, spare bits too" for stuck and spent
+abbrev pub handedOut : ℕ → List ℕ → Outcome → List ℕ
+handedOut n input o =
+    elim (o .ending) [ clean ↦ bytesOf n (o .last) | repaired ↦ bytesOf n (o .last) | stuck ↦ input | spent ↦ input ]
+
+unfoldable pub decodeOutput : ℕ → ℕ → List ℕ → List ℕ → List ℕ
+decodeOutput n allowance input output =
+    pick (eqb (decodeRefusal n allowance input output) 0) (handedOut n input (decoded n allowance (frameOf n input))) output
+
+-- document 01's number and values for each case: "Passes and flips stand for 0, 7 and 8; rows and columns for 7 and 8; all else
+-- is zero."
+abbrev pub endingNumber : Ending → ℕ
+endingNumber clean = 0
+endingNumber repaired = 0
+endingNumber stuck = 7
+endingNumber spent = 8
+
+abbrev pub number : Decoded → ℕ
+number (refused r) = r
+number (ended e passes flips rows columns) = endingNumber e
+
+abbrev pub passesOf : Decoded → ℕ
+passesOf (refused r) = 0
+passesOf (ended e passes flips rows columns) = passes
+
+abbrev pub flipsOf : Decoded → ℕ
+flipsOf (refused r) = 0
+flipsOf (ended e passes flips rows columns) = flips
+
+abbrev pub rowsOf : Decoded → ℕ
+rowsOf (refused r) = 0
+rowsOf (ended e passes flips rows columns) = rows
+
+abbrev pub columnsOf : Decoded → ℕ
+columnsOf (refused r) = 0
+columnsOf (ended e passes flips rows columns) = columns
+
+-- ---- A single word
+
+pub data WordSaid : Type 0 where
+  wordRefused : ℕ → WordSaid
+  answered : Answer → WordSaid
+
+unfoldable pub wordRefusal : ℕ → List ℕ → List ℕ → ℕ
+wordRefusal n input output =
+    pick (outside n) 1 (pick (notLong input (rowBytes n)) 2 (pick (notLong output (rowBytes n)) 3 0))
+
+unfoldable pub wordSaid : ℕ → List ℕ → List ℕ → WordSaid
+wordSaid n input output =
+    let r : ℕ = wordRefusal n input output in pick (eqb r 0) (answered (answer n (wordOf n input 0))) (wordRefused r)
+
+abbrev pub wordNumber : WordSaid → ℕ
+wordNumber (wordRefused r) = r
+wordNumber (answered codeword) = 0
+wordNumber (answered (onePlace p)) = 0
+wordNumber (answered (twoPlaces p q)) = 0
+wordNumber (answered beyond) = 9
+
+-- "An accepted word has its spare bits zero"; for number 9 "the received bytes, spare bits too"
+unfoldable pub wordOutput : ℕ → List ℕ → List ℕ → List ℕ
+wordOutput n input output =
+    pick (eqb (wordRefusal n input output) 0)
+    (pick (eqb (wordNumber (wordSaid n input output)) 0) (wordBytes n (mend n (wordOf n input 0))) input)
+    output
+
+-- ---- Row i, a part of the caller's own bytes
+-- "Asking for a row with n or length wrong, or i not below n, returns an empty part and no number"
+
+unfoldable pub rowPart : ℕ → List ℕ → ℕ → List ℕ
+rowPart n input i =
+    pick (outside n) []
+    (pick (notLong input (frameBytes n)) []
+    (pick (not (ltb i n)) [] (take (rowBytes n) (drop (i * rowBytes n) input))))

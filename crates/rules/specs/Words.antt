@@ -1,0 +1,116 @@
+-- Document 01, "Field and word".
+use mathlib.Core.Bool.{Bool, true, false, cond, xor, _||_}
+use mathlib.Core.List.{List, [], _∷_, _++_, map}
+use mathlib.Core.Option.{Option, some, none}
+use mathlib.Core.Path.{_≡_}
+use Prim.Native.Nat.{ℕ, zero, suc, _+_, _*_, _-_, _%_, _^_}
+use lib.Dec.{eqb}
+use lib.ListN.{length, take}
+use Rattle.algebra.specs.Xor.{_⊕_}
+use Rattle.algebra.specs.Tables.{tab, ones}
+use Rattle.algebra.specs.Words.{Word, bit}
+use Rattle.algebra.specs.Remainder.{register, powersDown, isOdd, systematic}
+
+-- the polynomial with these exponents; its coefficients are the number's binary digits
+unfoldable pub poly : List ℕ → ℕ
+poly [] = 0
+poly (e ∷ es) = 2 ^ e + poly es
+
+-- "a a root of z^8+z^4+z^3+z^2+1"
+unfoldable pub minimal₁ : ℕ
+minimal₁ = poly (8 ∷ 4 ∷ 3 ∷ 2 ∷ 0 ∷ [])
+
+-- "The minimal polynomial of a^3 is z^8+z^6+z^5+z^4+z^2+z+1."
+unfoldable pub minimal₃ : ℕ
+minimal₃ = poly (8 ∷ 6 ∷ 5 ∷ 4 ∷ 2 ∷ 1 ∷ 0 ∷ [])
+
+-- "g = z^16+z^14+z^13+z^11+z^10+z^9+z^8+z^6+z^5+z+1"
+unfoldable pub g : ℕ
+g = poly (16 ∷ 14 ∷ 13 ∷ 11 ∷ 10 ∷ 9 ∷ 8 ∷ 6 ∷ 5 ∷ 1 ∷ 0 ∷ [])
+
+-- "k = n − 17 data bits"
+abbrev pub dataBits : ℕ → ℕ
+dataBits n = n - 17
+
+-- "For j from 0 to n − 2, bit j is the coefficient of z^(n−2−j)."
+unfoldable pub remainder : ℕ → Word → ℕ
+remainder n w = register 16 g 0 (take (n - 1) w)
+
+-- the remainder, and behind it as the last digit whether the number of ones is odd
+unfoldable pub checks : ℕ → Word → ℕ
+checks n w = 2 * remainder n w + ones w % 2
+
+-- "the remainder that makes the polynomial divisible by g, and bit n − 1 makes the number of ones even. A codeword is any n
+-- bits for which both hold."
+unfoldable pub isCodeword : ℕ → Word → Bool
+isCodeword n w = eqb (checks n w) 0
+
+abbrev pub Codeword : ℕ → Word → Type 0
+Codeword n w = (length w ≡ n) × (isCodeword n w ≡ true)
+
+-- "Bits 0 to k − 1 are data, the next 16 are the remainder .., and bit n − 1 makes the number of ones even."
+unfoldable pub encodeWord : Word → Word
+encodeWord u = let w : Word = systematic 16 g u in w ++ isOdd (ones w) ∷ []
+
+-- The value of a place: the checks of the word whose only one stands there.
+-- "The overall parity bit is a place like any other."
+unfoldable pub values : ℕ → List ℕ
+values n = map (λ r. 2 * r + 1) (powersDown 16 g (n - 1)) ++ 1 ∷ []
+
+-- e + 1 places, rising, from place p on, whose values ⊕ to s: the first such by its lowest place
+unfoldable pub exactly : ℕ → ℕ → List ℕ → ℕ → Option (List ℕ)
+exactly zero p [] s = none
+exactly zero p (v ∷ vs) s = elim (eqb v s) [ true ↦ some (p ∷ []) | false ↦ exactly zero (suc p) vs s ]
+exactly (suc e) p [] s = none
+exactly (suc e) p (v ∷ vs) s =
+    elim (exactly e (suc p) vs (s ⊕ v)) [ some ps ↦ some (p ∷ ps) | none ↦ exactly (suc e) (suc p) vs s ]
+
+-- the fewest places, at most t, whose values ⊕ to s
+unfoldable pub within : ℕ → List ℕ → ℕ → Option (List ℕ)
+within zero vs s = elim (eqb s 0) [ true ↦ some [] | false ↦ none ]
+within (suc t) vs s = elim (within t vs s) [ some ps ↦ some ps | none ↦ exactly t 0 vs s ]
+
+-- the places that were changed, at most two; none where "no codeword lies within two". Only the n places of the word are tried:
+-- "a correction at a place that was cut away doesn't count."
+unfoldable pub nearest : ℕ → Word → Option (List ℕ)
+nearest n w = within 2 (values n) (checks n w)
+
+-- "A word's answer is one of four"
+pub data Answer : Type 0 where
+  -- "it is a codeword"
+  codeword : Answer
+  -- "one place was changed"
+  onePlace : ℕ → Answer
+  -- "two places were changed, the lower one named first"
+  twoPlaces : ℕ → ℕ → Answer
+  -- "or no codeword lies within two"
+  beyond : Answer
+
+unfoldable pub asAnswer : Option (List ℕ) → Answer
+asAnswer (some []) = codeword
+asAnswer (some (p ∷ [])) = onePlace p
+asAnswer (some (p ∷ q ∷ [])) = twoPlaces p q
+asAnswer (some (p ∷ q ∷ o ∷ ps)) = beyond
+asAnswer none = beyond
+
+unfoldable pub answer : ℕ → Word → Answer
+answer n w = asAnswer (nearest n w)
+
+-- the places that an answer names
+abbrev pub places : Answer → List ℕ
+places codeword = []
+places (onePlace p) = p ∷ []
+places (twoPlaces p q) = p ∷ q ∷ []
+places beyond = []
+
+unfoldable pub isIn : ℕ → List ℕ → Bool
+isIn j [] = false
+isIn j (p ∷ ps) = eqb j p || isIn j ps
+
+-- w with the bits at these places changed
+unfoldable pub changed : List ℕ → Word → Word
+changed ps w = tab (length w) (λ j. xor (isIn j ps) (bit w j))
+
+-- "each word that has a codeword within two is replaced by it; each other word is left"
+unfoldable pub mend : ℕ → Word → Word
+mend n w = changed (places (answer n w)) w
