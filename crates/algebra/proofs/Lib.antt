@@ -1,2 +1,3 @@
 pub mod XorLaws
 pub mod TableLaws
+pub mod WordLaws

@@ -1,0 +1,163 @@
+-- Words of one length under ⊻, the number of places in which they differ, and the ⊕ of the values at their ones.
+-- Assumes nothing.
+use mathlib.Core.Path.{_≡_, refl, sym, ap, ap₂, _∙_}
+use mathlib.Core.Bool.{Bool, true, false, xor}
+use mathlib.Core.List.{List, [], _∷_, _++_}
+use Prim.Native.Nat.{ℕ, zero, suc, _+_, _*_, _%_, _≤_, _<_}
+use native.Mathlib.Omega.{arith}
+use lib.ListN.{length, getD}
+use Rattle.algebra.specs.Xor.{_⊕_}
+use Rattle.algebra.specs.Tables.{num, ones}
+use Rattle.algebra.specs.Words.{Word, bit, _⊻_, differ, kept, dot}
+use Rattle.algebra.proofs.XorLaws.{⊕-swap, ⊕-self, ⊕-zero, zero-⊕, ⊕-assoc, xors}
+use Rattle.algebra.proofs.TableLaws.{num-zero}
+
+-- ---- xor of two bits
+
+pub xor-self : (b : Bool) → xor b b ≡ false
+unfolding xor
+xor-self true = refl
+xor-self false = refl
+
+pub xor-comm : (b c : Bool) → xor b c ≡ xor c b
+unfolding xor
+xor-comm true true = refl
+xor-comm true false = refl
+xor-comm false true = refl
+xor-comm false false = refl
+
+pub xor-cancel : (b c : Bool) → xor b (xor b c) ≡ c
+unfolding xor
+xor-cancel true true = refl
+xor-cancel true false = refl
+xor-cancel false true = refl
+xor-cancel false false = refl
+
+pub xor-false→≡ : (b c : Bool) → xor b c ≡ false → b ≡ c
+unfolding xor
+xor-false→≡ true true e = refl
+xor-false→≡ true false e = e
+xor-false→≡ false true e = sym e
+xor-false→≡ false false e = refl
+
+xor-num : (b c : Bool) → num (xor b c) ≤ num b + num c
+unfolding xor
+xor-num true true = omega arith
+xor-num true false = omega arith
+xor-num false true = omega arith
+xor-num false false = omega arith
+
+-- ---- words of one length
+
+pub ⊻-length : (w u : Word) → length w ≡ length u → length (w ⊻ u) ≡ length w
+unfolding _⊻_
+⊻-length [] [] h = refl
+⊻-length [] (c ∷ u) h = refl
+⊻-length (b ∷ w) [] h = sym h
+⊻-length (b ∷ w) (c ∷ u) h = ap suc (⊻-length w u (omega arith))
+
+pub ⊻-bit : (w u : Word) → length w ≡ length u → (j : ℕ) → bit (w ⊻ u) j ≡ xor (bit w j) (bit u j)
+unfolding _⊻_ bit xor
+⊻-bit [] [] h j = refl
+⊻-bit [] (c ∷ u) h j = absurd (omega arith)
+⊻-bit (b ∷ w) [] h j = absurd (omega arith)
+⊻-bit (b ∷ w) (c ∷ u) h zero = refl
+⊻-bit (b ∷ w) (c ∷ u) h (suc j) = ⊻-bit w u (omega arith) j
+
+pub ⊻-cancel : (w u : Word) → length w ≡ length u → w ⊻ (w ⊻ u) ≡ u
+unfolding _⊻_
+⊻-cancel [] [] h = refl
+⊻-cancel [] (c ∷ u) h = absurd (omega arith)
+⊻-cancel (b ∷ w) [] h = absurd (omega arith)
+⊻-cancel (b ∷ w) (c ∷ u) h = ap₂ _∷_ (xor-cancel b c) (⊻-cancel w u (omega arith))
+
+pub ⊻-comm : (w u : Word) → w ⊻ u ≡ u ⊻ w
+unfolding _⊻_
+⊻-comm [] [] = refl
+⊻-comm [] (c ∷ u) = refl
+⊻-comm (b ∷ w) [] = refl
+⊻-comm (b ∷ w) (c ∷ u) = ap₂ _∷_ (xor-comm b c) (⊻-comm w u)
+
+pub differ-self : (w : Word) → differ w w ≡ 0
+unfolding _⊻_ ones
+differ-self [] = refl
+differ-self (b ∷ w) = ap₂ (λ x m. num x + m) (xor-self b) (differ-self w)
+
+pub differ-comm : (w u : Word) → differ w u ≡ differ u w
+differ-comm w u = ap ones (⊻-comm w u)
+
+pub differ-zero : (w u : Word) → length w ≡ length u → differ w u ≡ 0 → w ≡ u
+unfolding _⊻_ ones
+differ-zero [] [] h e = refl
+differ-zero [] (c ∷ u) h e = absurd (omega arith)
+differ-zero (b ∷ w) [] h e = absurd (omega arith)
+differ-zero (b ∷ w) (c ∷ u) h e =
+    ap₂ _∷_ (xor-false→≡ b c (num-zero (omega arith))) (differ-zero w u (omega arith) (omega arith))
+
+pub ⊻-ones : (w u : Word) → ones (w ⊻ u) ≤ ones w + ones u
+unfolding _⊻_ ones
+⊻-ones [] [] = omega arith
+⊻-ones [] (c ∷ u) = omega arith
+⊻-ones (b ∷ w) [] = omega arith
+⊻-ones (b ∷ w) (c ∷ u) = omega (arith, xor-num b c, ⊻-ones w u)
+
+pub differ-triangle : (w c u : Word) → length w ≡ length c → length c ≡ length u → differ w u ≤ differ w c + differ c u
+unfolding _⊻_ ones xor
+differ-triangle [] [] [] h k = omega arith
+differ-triangle [] [] (y ∷ u) h k = omega arith
+differ-triangle [] (x ∷ c) u h k = absurd (omega arith)
+differ-triangle (b ∷ w) [] u h k = absurd (omega arith)
+differ-triangle (b ∷ w) (x ∷ c) [] h k = omega arith
+differ-triangle (b ∷ w) (x ∷ c) (y ∷ u) h k =
+    omega (arith, through b x y, differ-triangle w c u (omega arith) (omega arith))
+  where
+    through : (b x y : Bool) → num (xor b y) ≤ num (xor b x) + num (xor x y)
+    through true true y = omega arith
+    through true false true = omega arith
+    through true false false = omega arith
+    through false true true = omega arith
+    through false true false = omega arith
+    through false false y = omega arith
+
+-- ---- the values at a word's ones
+
+pub kept-xor : (b c : Bool) (v : ℕ) → kept (xor b c) v ≡ kept b v ⊕ kept c v
+unfolding xor
+kept-xor true true v = sym (⊕-self v)
+kept-xor true false v = sym (⊕-zero v)
+kept-xor false true v = sym (zero-⊕ v)
+kept-xor false false v = sym (zero-⊕ 0)
+
+pub dot-⊻ : (vs : List ℕ) (w u : Word) → length w ≡ length u → dot vs (w ⊻ u) ≡ dot vs w ⊕ dot vs u
+unfolding _⊻_ dot
+dot-⊻ [] [] [] h = sym (zero-⊕ 0)
+dot-⊻ [] [] (c ∷ u) h = absurd (omega arith)
+dot-⊻ [] (b ∷ w) [] h = absurd (omega arith)
+dot-⊻ [] (b ∷ w) (c ∷ u) h = sym (zero-⊕ 0)
+dot-⊻ (v ∷ vs) [] [] h = sym (zero-⊕ 0)
+dot-⊻ (v ∷ vs) [] (c ∷ u) h = absurd (omega arith)
+dot-⊻ (v ∷ vs) (b ∷ w) [] h = absurd (omega arith)
+dot-⊻ (v ∷ vs) (b ∷ w) (c ∷ u) h =
+    ap₂ _⊕_ (kept-xor b c v) (dot-⊻ vs w u (omega arith)) ∙ ⊕-swap (kept b v) (kept c v) (dot vs w) (dot vs u)
+
+-- no ones, no value
+pub dot-none : (vs : List ℕ) (w : Word) → ones w ≡ 0 → dot vs w ≡ 0
+unfolding dot ones
+dot-none [] [] h = refl
+dot-none [] (b ∷ w) h = refl
+dot-none (v ∷ vs) [] h = refl
+dot-none (v ∷ vs) (true ∷ w) h = absurd (omega arith)
+dot-none (v ∷ vs) (false ∷ w) h = zero-⊕ (dot vs w) ∙ dot-none vs w (omega arith)
+
+pub dot-++ : (vs us : List ℕ) (w u : Word) → length w ≡ length vs → dot (vs ++ us) (w ++ u) ≡ dot vs w ⊕ dot us u
+unfolding dot
+dot-++ [] us [] u h = sym (zero-⊕ (dot us u))
+dot-++ [] us (b ∷ w) u h = absurd (omega arith)
+dot-++ (v ∷ vs) us [] u h = absurd (omega arith)
+dot-++ (v ∷ vs) us (b ∷ w) u h =
+    ap (λ m. kept b v ⊕ m) (dot-++ vs us w u (omega arith)) ∙ sym (⊕-assoc (kept b v) (dot vs w) (dot us u))
+
+pub ones-++ : (w u : Word) → ones (w ++ u) ≡ ones w + ones u
+unfolding ones
+ones-++ [] u = omega arith
+ones-++ (b ∷ w) u = omega (arith, ones-++ w u)
