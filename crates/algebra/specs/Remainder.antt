@@ -14,13 +14,13 @@ shift d g r b = let x : ℕ = 2 * r + num b in cond (ltb x (2 ^ d)) x (x ⊕ g)
 
 -- the remainder of r followed by the coefficients w, the highest first
 unfoldable pub register : ℕ → ℕ → ℕ → Word → ℕ
-register d g r [] = 0 + r
+register d g r [] = r
 register d g r (b ∷ w) = register d g (shift d g r b) w
 
 -- r z^(m−1), .., r z, r, each modulo g, before the list behind
 unfoldable pub descend : ℕ → ℕ → ℕ → ℕ → List ℕ → List ℕ
 descend d g zero r behind = behind
-descend d g (suc m) r behind = descend d g m (0 + shift d g r false) (r ∷ behind)
+descend d g (suc m) r behind = descend d g m (shift d g r false) (r ∷ behind)
 
 -- z^(m−1), .., z, 1, each modulo g
 abbrev pub powersDown : ℕ → ℕ → ℕ → List ℕ
