@@ -37,8 +37,8 @@ pairs x y p q hp hq =
     let d₂ : (2 * y + q) % 2 ≡ q = omega arith in
     let d₃ : (2 * (x ⊕ y) + (p ⊕ q)) % 2 ≡ p ⊕ q = omega arith in
     by-digit
-      (⊕-half (2 * x + p) (2 * y + q) ∙ ap₂ _⊕_ h₁ h₂ ∙ sym h₃)
-      (⊕-digit (2 * x + p) (2 * y + q) ∙ ap₂ _⊕_ d₁ d₂ ∙ sym d₃)
+    (⊕-half (2 * x + p) (2 * y + q) ∙ ap₂ _⊕_ h₁ h₂ ∙ sym h₃)
+    (⊕-digit (2 * x + p) (2 * y + q) ∙ ap₂ _⊕_ d₁ d₂ ∙ sym d₃)
 
 -- every value doubled and one more: the sum doubled, and the parity of the ones
 pub dot-parity :

@@ -63,8 +63,8 @@ digits-join r m x =
     let y : ℕ = x / 2 ^ m % 2 in
     let e₁ : x % 2 ^ suc m ≡ y * 2 ^ m + x % 2 ^ m = ap (λ e. x % 2 ^ e) (let q : suc m ≡ 1 + m = omega arith in q) ∙ mod-pow-add x 1 m in
     let e₂ : (2 * r + y) * 2 ^ m ≡ r * 2 ^ suc m + y * 2 ^ m =
-      add-mul (2 * r) y (2 ^ m)
-      ∙ ap (λ z. z + y * 2 ^ m) (mul-assoc 2 r (2 ^ m) ∙ mul-left-comm 2 r (2 ^ m) ∙ ap (λ z. r * z) (mul-comm 2 (2 ^ m) ∙ sym (pow-suc 2 m))) in
+    add-mul (2 * r) y (2 ^ m)
+    ∙ ap (λ z. z + y * 2 ^ m) (mul-assoc 2 r (2 ^ m) ∙ mul-left-comm 2 r (2 ^ m) ∙ ap (λ z. r * z) (mul-comm 2 (2 ^ m) ∙ sym (pow-suc 2 m))) in
     ap (λ z. (2 * r + z) * 2 ^ m + x % 2 ^ m) (num-odd (x / 2 ^ m)) ∙ omega arith
 
 pub binary-length : (m x : ℕ) → length (binary m x) ≡ m
@@ -87,7 +87,7 @@ module _ (k c : ℕ) (small : c < 2 ^ suc k) where
       go :
           Dec (2 * r + num b < 2 ^ suc k)
           → cond (lib.Dec.ltb (2 * r + num b) (2 ^ suc k)) (2 * r + num b) ((2 * r + num b) ⊕ (2 ^ suc k + c))
-            ≡ 2 * r % 2 ^ suc k ⊕ r / 2 ^ k % 2 * c ⊕ num b
+          ≡ 2 * r % 2 ^ suc k ⊕ r / 2 ^ k % 2 * c ⊕ num b
       go (yes l) =
           let top : r < 2 ^ k = omega (arith, pow-suc 2 k) in
           let e₁ : 2 * r % 2 ^ suc k ≡ 2 * r = mod-eq-of-lt (omega arith) in
@@ -103,8 +103,8 @@ module _ (k c : ℕ) (small : c < 2 ^ suc k) where
           let e₁ : 2 * r % 2 ^ suc k ≡ 2 * y = ap (λ m. m % 2 ^ suc k) q₂ ∙ low 1 (suc k) hy₂ in
           let e₂ : r / 2 ^ k ≡ 1 = ap (λ m. m / 2 ^ k) q ∙ high 1 k hy in
           let e₃ : 2 * r + num b ≡ 2 ^ suc k ⊕ (2 * y ⊕ num b) =
-            (let e : 2 * r + num b ≡ 2 ^ suc k + (2 * y + num b) = omega arith in e)
-            ∙ sym (⊕-top (suc k) hy₃) ∙ ap (λ m. 2 ^ suc k ⊕ m) (sym (beside y b)) in
+          (let e : 2 * r + num b ≡ 2 ^ suc k + (2 * y + num b) = omega arith in e)
+          ∙ sym (⊕-top (suc k) hy₃) ∙ ap (λ m. 2 ^ suc k ⊕ m) (sym (beside y b)) in
           rw (le-ltb (2 * r + num b) (2 ^ suc k) (omega arith), e₁, e₂, one-mul, e₃, ← (⊕-top (suc k) small)) (simp xors)
 
   pub shift-lt : (r : ℕ) (b : Bool) → r < 2 ^ suc k → shift (suc k) (2 ^ suc k + c) r b < 2 ^ suc k
@@ -123,7 +123,7 @@ module _ (k c : ℕ) (small : c < 2 ^ suc k) where
   descend-suc :
       (m r : ℕ) (behind : List ℕ) → r < 2 ^ suc k
       → descend (suc k) (2 ^ suc k + c) (suc m) r behind
-        ≡ iter m (turn k c) r ∷ descend (suc k) (2 ^ suc k + c) m r behind
+      ≡ iter m (turn k c) r ∷ descend (suc k) (2 ^ suc k + c) m r behind
   unfolding descend iter
   descend-suc zero r behind h = refl
   descend-suc (suc m) r behind h =
@@ -148,7 +148,7 @@ module _ (k c : ℕ) (small : c < 2 ^ suc k) where
   dot-first :
       (m : ℕ) (b : Bool) (w : Word)
       → dot (powersDown (suc k) (2 ^ suc k + c) (suc m)) (b ∷ w)
-        ≡ kept b (iter m (turn k c) 1) ⊕ dot (powersDown (suc k) (2 ^ suc k + c) m) w
+      ≡ kept b (iter m (turn k c) 1) ⊕ dot (powersDown (suc k) (2 ^ suc k + c) m) w
   unfolding dot
   dot-first m b w = ap (λ vs. dot vs (b ∷ w)) (powersDown-suc m)
 
@@ -160,23 +160,23 @@ module _ (k c : ℕ) (small : c < 2 ^ suc k) where
   pub register-dot :
       (r : ℕ) (w : Word) → r < 2 ^ suc k
       → register (suc k) (2 ^ suc k + c) r w
-        ≡ iter (length w) (turn k c) r ⊕ dot (powersDown (suc k) (2 ^ suc k + c) (length w)) w
+      ≡ iter (length w) (turn k c) r ⊕ dot (powersDown (suc k) (2 ^ suc k + c) (length w)) w
   unfolding register
   register-dot r [] h = sym (start r)
   register-dot r (b ∷ w) h =
       register-dot (shift (suc k) (2 ^ suc k + c) r b) w (shift-lt r b h)
       ∙ ap (λ x. x ⊕ dot (powersDown (suc k) (2 ^ suc k + c) (length w)) w)
-          (ap (iter (length w) (turn k c)) (shift-turn r b h)
-          ∙ additive-iter (turn k c) (turn-additive k c) (length w) (turn k c r) (num b)
-          ∙ ap₂ _⊕_ (sym (iter-suc (length w) (turn k c) r)) (moved (length w) b))
+      (ap (iter (length w) (turn k c)) (shift-turn r b h)
+      ∙ additive-iter (turn k c) (turn-additive k c) (length w) (turn k c r) (num b)
+      ∙ ap₂ _⊕_ (sym (iter-suc (length w) (turn k c) r)) (moved (length w) b))
       ∙ ⊕-assoc (iter (suc (length w)) (turn k c) r) (kept b (iter (length w) (turn k c) 1))
-          (dot (powersDown (suc k) (2 ^ suc k + c) (length w)) w)
+      (dot (powersDown (suc k) (2 ^ suc k + c) (length w)) w)
       ∙ ap (λ x. iter (suc (length w)) (turn k c) r ⊕ x) (sym (dot-first (length w) b w))
 
   pub register-++ :
       (r : ℕ) (w u : Word)
       → register (suc k) (2 ^ suc k + c) r (w ++ u)
-        ≡ register (suc k) (2 ^ suc k + c) (register (suc k) (2 ^ suc k + c) r w) u
+      ≡ register (suc k) (2 ^ suc k + c) (register (suc k) (2 ^ suc k + c) r w) u
   unfolding register
   register-++ r [] u = refl
   register-++ r (b ∷ w) u = register-++ (shift (suc k) (2 ^ suc k + c) r b) w u
@@ -233,14 +233,14 @@ module _ (k c : ℕ) (small : c < 2 ^ suc k) where
       let hs : s < 2 ^ suc k = register-lt 0 w (pow-pos (suc k)) in
       let hr : r < 2 ^ suc k = register-lt 0 (w ++ replicate (suc k) false) (pow-pos (suc k)) in
       let e₁ : r ≡ iter (suc k) (turn k c) s =
-        register-++ 0 w (replicate (suc k) false)
-        ∙ iter-register s (replicate (suc k) false) hs (ones-none (suc k))
-        ∙ ap (λ m. iter m (turn k c) s) (length-replicate (suc k) false) in
+      register-++ 0 w (replicate (suc k) false)
+      ∙ iter-register s (replicate (suc k) false) hs (ones-none (suc k))
+      ∙ ap (λ m. iter m (turn k c) s) (length-replicate (suc k) false) in
       let e₂ : register (suc k) (2 ^ suc k + c) 0 v ≡ r =
-        register-binary (suc k) 0 r (whole (suc k)) ∙ ap₂ _+_ (zero-mul (2 ^ suc k)) (mod-eq-of-lt hr) ∙ zero-add r in
+      register-binary (suc k) 0 r (whole (suc k)) ∙ ap₂ _+_ (zero-mul (2 ^ suc k)) (mod-eq-of-lt hr) ∙ zero-add r in
       let e₃ : dot (powersDown (suc k) (2 ^ suc k + c) (length v)) v ≡ r = sym (register-start v) ∙ e₂ in
       let e₄ : iter (length v) (turn k c) s ≡ r =
-        ap (λ m. iter m (turn k c) s) (binary-length (suc k) r) ∙ sym e₁ in
+      ap (λ m. iter m (turn k c) s) (binary-length (suc k) r) ∙ sym e₁ in
       register-++ 0 w v ∙ register-dot s v hs ∙ ap₂ _⊕_ e₄ e₃ ∙ ⊕-self r
 
   -- check digits alone are divisible only where all are zero
@@ -249,6 +249,6 @@ module _ (k c : ℕ) (small : c < 2 ^ suc k) where
   divisible-zero w u hw hu e =
       let z : register (suc k) (2 ^ suc k + c) 0 w ≡ 0 = iter-register 0 w (pow-pos (suc k)) hw ∙ iter-zero k c (length w) in
       let e′ : register (suc k) (2 ^ suc k + c) 0 u ≡ 0 =
-        ap (λ r. register (suc k) (2 ^ suc k + c) r u) (sym z) ∙ sym (register-++ 0 w u) ∙ e in
+      ap (λ r. register (suc k) (2 ^ suc k + c) r u) (sym z) ∙ sym (register-++ 0 w u) ∙ e in
       let i = register-zero 0 u (rw hu (whole (suc k))) e′ in
       ones-++ w u ∙ ap₂ _+_ hw (i .1)

@@ -1,0 +1,44 @@
+-- A frame of codewords, row by row and column by column.
+-- Assumes nothing.
+use mathlib.Core.Path.{_≡_, refl, sym, ap, ap₂, _∙_}
+use mathlib.Core.Bool.{Bool, true, false, not}
+use Prim.Native.Nat.{ℕ, zero, suc, _+_, _≤_, _<_}
+use native.Mathlib.Omega.{arith}
+use borrow.Author.Tests.{eqb-true, eq-eqb, not-false}
+use Rattle.algebra.specs.Tables.{tab, count}
+use Rattle.algebra.specs.Words.{Word}
+use Rattle.algebra.proofs.TableLaws.{count-zero, zero-count}
+use Rattle.rules.specs.Words.{isCodeword}
+use Rattle.rules.specs.Frames.{Frame, row, cell, turned, badRows, badColumns, isFrame}
+use Rattle.rules.proofs.Shape.{Square, turned-twice}
+
+-- every row is a codeword
+abbrev pub Rows : ℕ → Frame → Type 0
+Rows n f = (i : ℕ) → i < n → isCodeword n (row f i) ≡ true
+
+rows-none : (n : ℕ) (f : Frame) → badRows n f ≡ 0 → Rows n f
+unfolding badRows
+rows-none n f h i hi = not-false (isCodeword n (row f i)) (count-zero n (λ i. not (isCodeword n (row f i))) h i hi)
+
+none-rows : (n : ℕ) (f : Frame) → Rows n f → badRows n f ≡ 0
+unfolding badRows
+none-rows n f h = zero-count n (λ i. not (isCodeword n (row f i))) (λ i hi. ap not (h i hi))
+
+-- "every row and every column a codeword"
+pub frame-rows : (n : ℕ) (f : Frame) → isFrame n f ≡ true → Rows n f
+unfolding isFrame
+frame-rows n f h = rows-none n f (let e = eqb-true (badRows n f + badColumns n f) 0 h in omega arith)
+
+pub frame-columns : (n : ℕ) (f : Frame) → isFrame n f ≡ true → Rows n (turned n f)
+unfolding isFrame badColumns
+frame-columns n f h = rows-none n (turned n f) (let e = eqb-true (badRows n f + badColumns n f) 0 h in omega arith)
+
+pub rows-columns-frame : (n : ℕ) (f : Frame) → Rows n f → Rows n (turned n f) → isFrame n f ≡ true
+unfolding isFrame badColumns
+rows-columns-frame n f hr hc =
+    eq-eqb (badRows n f + badRows n (turned n f)) 0 (ap₂ _+_ (none-rows n f hr) (none-rows n (turned n f) hc))
+
+-- rows and columns changed over
+pub frame-turned : (n : ℕ) (f : Frame) → Square n f → isFrame n f ≡ true → isFrame n (turned n f) ≡ true
+frame-turned n f s h =
+    rows-columns-frame n (turned n f) (frame-columns n f h) (rw (turned-twice n f s) (frame-rows n f h))

@@ -1,0 +1,5 @@
+pub mod Shape
+pub mod BitLaws
+pub mod PackLaws
+pub mod CheckLaws
+pub mod FrameLaws
