@@ -1,7 +1,18 @@
+-- Exclusive or, additive maps, registers
 pub mod XorLaws
 pub mod LinearLaws
 pub mod RegisterLaws
+pub mod Inverse
+-- Fields, Vandermonde, power sums
+pub mod Field
+pub mod Vandermonde
+pub mod PowerSums
+pub mod LogTableLaws
+pub mod RegisterField
+pub mod PlacesIndependent
+pub mod Field256Laws
+-- Tables, words, remainders
 pub mod TableLaws
 pub mod WordLaws
-pub mod RemainderLaws
 pub mod ParityLaws
+pub mod RemainderLaws

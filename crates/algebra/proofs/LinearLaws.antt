@@ -2,8 +2,8 @@
 -- Assumes nothing.
 use mathlib.Core.Path.{_≡_, refl, sym, ap, ap₂, _∙_}
 use mathlib.Core.List.{List, [], _∷_}
-use mathlib.Core.Bool.{Bool, true, false, _&&_}
-use Prim.Native.Nat.{ℕ, zero, suc, _+_, _*_, _-_, _/_, _%_, _^_, _≤_, _<_}
+use mathlib.Core.Bool.{Bool, true, _&&_}
+use Prim.Native.Nat.{ℕ, zero, suc, _+_, _*_, _-_, _/_, _%_, _^_, _<_}
 use native.Mathlib.Nat.{zero-mul, one-mul, pow-suc}
 use native.Mathlib.Decide.{decLt}
 use native.Mathlib.Omega.{arith}
@@ -12,7 +12,7 @@ use lib.Dec.{T, eqb, eqb→eq}
 use Rattle.algebra.specs.Xor.{_⊕_}
 use Rattle.algebra.specs.Register.{iter}
 use Rattle.algebra.specs.Linear.{Additive, lin}
-use Rattle.algebra.proofs.XorLaws.{⊕-zero, zero-⊕, ⊕-self, ⊕-swap, ⊕-half, ⊕-digit, ⊕-cancel, xors}
+use Rattle.algebra.proofs.XorLaws.{⊕-zero, zero-⊕, ⊕-self, ⊕-swap, ⊕-half, ⊕-digit}
 
 -- digits scale a number additively
 pub digit-scale : (c x y : ℕ) → x < 2 → y < 2 → (x ⊕ y) * c ≡ x * c ⊕ y * c
@@ -22,6 +22,7 @@ digit-scale c (suc zero) (suc zero) hx hy = simp (⊕-self, zero-mul)
 digit-scale c (suc zero) (suc (suc y)) hx hy = absurd (omega arith)
 digit-scale c (suc (suc x)) y hx hy = absurd (omega arith)
 
+-- a map given by its columns is additive, whatever the columns
 pub lin-additive : (cs : List ℕ) → Additive (lin cs)
 unfolding lin
 lin-additive [] a b = sym (⊕-self 0)
@@ -73,6 +74,7 @@ agree (suc k) f g hf hg e x h = go (decLt x (2 ^ k)) (agree k f g hf hg (λ i hi
         ap f p ∙ hf (2 ^ k) (x - 2 ^ k) ∙ ap₂ _⊕_ (e k (omega arith)) (ih (x - 2 ^ k) r)
         ∙ sym (hg (2 ^ k) (x - 2 ^ k)) ∙ ap g (sym p)
 
+-- a test that passed as a whole passed in each half
 pub T-left : (a b : Bool) → T (a && b) → T a
 T-left true b h = tt
 
@@ -84,6 +86,7 @@ unfoldable pub agrees : ℕ → (ℕ → ℕ) → (ℕ → ℕ) → Bool
 agrees zero f g = true
 agrees (suc k) f g = eqb (f (2 ^ k)) (g (2 ^ k)) && agrees k f g
 
+-- what the test says
 pub agrees→ : (k : ℕ) (f g : ℕ → ℕ) → T (agrees k f g) → (i : ℕ) → i < k → f (2 ^ i) ≡ g (2 ^ i)
 unfolding agrees
 agrees→ zero f g h i hi = absurd (omega arith)

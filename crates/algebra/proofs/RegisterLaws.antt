@@ -1,11 +1,11 @@
 -- A shift register's step is additive and loses nothing; steps made many times; a register carried by an additive map.
 -- Assumes nothing.
 use mathlib.Core.Path.{_≡_, refl, sym, ap, ap₂, _∙_}
-use Prim.Native.Nat.{ℕ, zero, suc, _+_, _*_, _-_, _/_, _%_, _^_, _≤_, _<_}
+use Prim.Native.Nat.{ℕ, zero, suc, _+_, _*_, _/_, _%_, _^_, _<_}
 use native.Mathlib.Nat.{mod-lt, zero-mul, one-mul, zero-add, suc-add, add-comm, mul-zero, mul-suc, pow-suc}
 use native.Mathlib.Omega.{arith}
 use lib.Arith.{mod-mul}
-use lib.Pow.{pow-pos, pow-mono, split, shr-lt}
+use lib.Pow.{pow-pos, split, shr-lt}
 use lib.Dec.{T, lit<}
 use Rattle.algebra.specs.Xor.{_⊕_}
 use Rattle.algebra.specs.Register.{iter, turn}
@@ -28,6 +28,7 @@ pub ⊕-double : (a b : ℕ) → 2 * (a ⊕ b) ≡ 2 * a ⊕ 2 * b
     digits : 2 * (a ⊕ b) % 2 ≡ (2 * a ⊕ 2 * b) % 2
     digits = simp (⊕-digit, even, ⊕-zero)
 
+-- for every width and every c, odd or not
 pub turn-additive : (k c : ℕ) → Additive (turn k c)
 unfolding turn
 turn-additive k c a b =
@@ -46,11 +47,13 @@ pub turn-lt : (k : ℕ) {c : ℕ} → c < 2 ^ suc k → (x : ℕ) → turn k c x
 unfolding turn
 turn-lt k h x = ⊕-lt (suc k) (mod-lt (2 * x) (pow-pos (suc k))) (digit-lt (x / 2 ^ k % 2) (omega arith) h)
 
+-- an odd number keeps the digit that scales it
 digit-odd : (d c : ℕ) → c % 2 ≡ 1 → d < 2 → d * c % 2 ≡ d
 digit-odd zero c h hd = rw zero-mul
 digit-odd (suc zero) c h hd = rw one-mul h
 digit-odd (suc (suc d)) c h hd = absurd (omega arith)
 
+-- the shift drops the top digit and nothing else
 double-mod : (k x : ℕ) → 2 * x % 2 ^ suc k ≡ x % 2 ^ k * 2
 double-mod k x =
     let h : 2 * x / 2 ≡ x = omega arith in
@@ -81,6 +84,7 @@ module _ {ℓ} {A : Type ℓ} where
   iter-add zero n f x = ap (λ (j : ℕ). iter j f x) (zero-add n)
   iter-add (suc m) n f x = ap (λ (j : ℕ). iter j f x) (suc-add m n) ∙ ap f (iter-add m n f x)
 
+  -- the first step set apart, where the definition sets the last apart
   pub iter-suc : (n : ℕ) (f : A → A) (x : A) → iter (suc n) f x ≡ iter n f (f x)
   unfolding iter
   iter-suc zero f x = refl
@@ -89,6 +93,7 @@ module _ {ℓ} {A : Type ℓ} where
   pub iter-comm : (m n : ℕ) (f : A → A) (x : A) → iter m f (iter n f x) ≡ iter n f (iter m f x)
   iter-comm m n f x = sym (iter-add m n f x) ∙ ap (λ (j : ℕ). iter j f x) (add-comm m n) ∙ iter-add n m f x
 
+  -- e rounds of r steps
   pub iter-mul : (r e : ℕ) (f : A → A) (x : A) → iter (r * e) f x ≡ iter e (iter r f) x
   unfolding iter
   iter-mul r zero f x = ap (λ (j : ℕ). iter j f x) (mul-zero r)
@@ -110,6 +115,14 @@ one-lt k = omega (arith, pow-suc 2 k, pow-pos k)
 
 pub iter-zero : (k c n : ℕ) → iter n (turn k c) 0 ≡ 0
 iter-zero k c n = additive-zero (iter n (turn k c)) (additive-iter (turn k c) (turn-additive k c) n)
+
+-- no number of steps leads to 0, but from 0
+pub iter-nonzero :
+    (k c : ℕ) → c < 2 ^ suc k → c % 2 ≡ 1 → (n x : ℕ) → x < 2 ^ suc k → iter n (turn k c) x ≡ 0 → x ≡ 0
+unfolding iter
+iter-nonzero k c small odd zero x h e = e
+iter-nonzero k c small odd (suc n) x h e =
+    iter-nonzero k c small odd n x h (turn-nonzero k c odd (iter-lt k small n x h) e)
 
 -- An additive map that carries one step of a register to r steps of another carries e steps to r * e: so the r-th power
 -- sum is an additive function of a remainder.
