@@ -16,3 +16,4 @@ pub mod TableLaws
 pub mod WordLaws
 pub mod ParityLaws
 pub mod RemainderLaws
+pub mod Independent

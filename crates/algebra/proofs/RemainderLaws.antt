@@ -243,11 +243,15 @@ module _ (k c : ℕ) (small : c < 2 ^ suc k) where
       ap (λ m. iter m (turn k c) s) (binary-length (suc k) r) ∙ sym e₁ in
       register-++ 0 w v ∙ register-dot s v hs ∙ ap₂ _⊕_ e₄ e₃ ∙ ⊕-self r
 
+  -- zeros leave nothing
+  pub register-none : (w : Word) → ones w ≡ 0 → register (suc k) (2 ^ suc k + c) 0 w ≡ 0
+  register-none w h = iter-register 0 w (pow-pos (suc k)) h ∙ iter-zero k c (length w)
+
   -- check digits alone are divisible only where all are zero
   pub divisible-zero :
       (w u : Word) → ones w ≡ 0 → length u ≡ suc k → register (suc k) (2 ^ suc k + c) 0 (w ++ u) ≡ 0 → ones (w ++ u) ≡ 0
   divisible-zero w u hw hu e =
-      let z : register (suc k) (2 ^ suc k + c) 0 w ≡ 0 = iter-register 0 w (pow-pos (suc k)) hw ∙ iter-zero k c (length w) in
+      let z : register (suc k) (2 ^ suc k + c) 0 w ≡ 0 = register-none w hw in
       let e′ : register (suc k) (2 ^ suc k + c) 0 u ≡ 0 =
       ap (λ r. register (suc k) (2 ^ suc k + c) r u) (sym z) ∙ sym (register-++ 0 w u) ∙ e in
       let i = register-zero 0 u (rw hu (whole (suc k))) e′ in

@@ -40,7 +40,7 @@ unfolding dot
 last-value true = ⊕-zero 1
 last-value false = ⊕-zero 0
 
-ones-last : (u : Word) (b : Bool) → ones (u ++ b ∷ []) ≡ ones u + num b
+pub ones-last : (u : Word) (b : Bool) → ones (u ++ b ∷ []) ≡ ones u + num b
 unfolding ones
 ones-last u b = ones-++ u (b ∷ []) ∙ (let e : ones u + (num b + 0) ≡ ones u + num b = omega arith in e)
 

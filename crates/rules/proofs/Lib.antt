@@ -3,3 +3,5 @@ pub mod BitLaws
 pub mod PackLaws
 pub mod CheckLaws
 pub mod FrameLaws
+pub mod PowerSumLaws
+pub mod Distance
