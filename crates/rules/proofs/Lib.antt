@@ -5,3 +5,4 @@ pub mod CheckLaws
 pub mod FrameLaws
 pub mod PowerSumLaws
 pub mod Distance
+pub mod SearchLaws
