@@ -6,3 +6,5 @@ pub mod FrameLaws
 pub mod PowerSumLaws
 pub mod Distance
 pub mod SearchLaws
+pub mod PatternLaws
+pub mod Answers

@@ -107,8 +107,8 @@ exactly-says zero p (v ∷ vs) s = go (eqb v s) refl (exactly-says zero (suc p) 
     go true q h = hit-one p v vs s (eqb-true v s q)
     go false q h =
         says-later zero p v vs s
-          (λ w l o d. eqb-false v s q (sym (⊕-cancel s v) ∙ ap (λ m. s ⊕ m) (sym d ∙ dot-none vs w o) ∙ ⊕-zero s))
-          (exactly zero (suc p) vs s) h
+        (λ w l o d. eqb-false v s q (sym (⊕-cancel s v) ∙ ap (λ m. s ⊕ m) (sym d ∙ dot-none vs w o) ∙ ⊕-zero s))
+        (exactly zero (suc p) vs s) h
 exactly-says (suc e) p [] s = miss-nil (suc e) s
 exactly-says (suc e) p (v ∷ vs) s =
     go (exactly e (suc p) vs (s ⊕ v)) (exactly-says e (suc p) vs (s ⊕ v)) (exactly-says (suc e) (suc p) vs s)
@@ -146,4 +146,4 @@ within-says (suc t) vs s = go (within t vs s) (within-says t vs s)
         more (some ps) (w, l, o, d, q) = (w, l, omega arith, d, q)
         more none exact =
             λ w l o. elim (decLt t (ones w)) as (λ h. dot vs w ≢ s)
-              [ yes h ↦ exact w l (omega arith) | no h ↦ fewer w l (omega arith) ]
+            [ yes h ↦ exact w l (omega arith) | no h ↦ fewer w l (omega arith) ]
