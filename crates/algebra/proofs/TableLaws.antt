@@ -83,6 +83,19 @@ total-mono c (suc n) f g h =
     ap (λ m. c * m) (total-suc n f) ∙ mul-add c (f 0) (total n (λ i. f (suc i))) in
     omega (arith, total-suc n g)
 
+-- term by term against two sums
+pub total-add : (n : ℕ) (f g h : ℕ → ℕ) → ((i : ℕ) → i < n → f i ≤ g i + h i) → total n f ≤ total n g + total n h
+total-add zero f g h q = omega (arith, total-none f)
+total-add (suc n) f g h q =
+    omega (
+      arith,
+      total-suc n f,
+      total-suc n g,
+      total-suc n h,
+      q 0 (omega arith),
+      total-add n (λ i. f (suc i)) (λ i. g (suc i)) (λ i. h (suc i)) (λ i l. q (suc i) (omega arith)),
+    )
+
 pub total-ext : (n : ℕ) (f g : ℕ → ℕ) → ((i : ℕ) → i < n → f i ≡ g i) → total n f ≡ total n g
 total-ext n f g h = ap sum (tab-ext n f g h)
 

@@ -8,3 +8,6 @@ pub mod Distance
 pub mod SearchLaws
 pub mod PatternLaws
 pub mod Answers
+pub mod PassLaws
+pub mod TwoPasses
+pub mod RepairFrames

@@ -11,12 +11,10 @@ use Rattle.algebra.specs.Tables.{tab}
 use Rattle.algebra.specs.Words.{Word, bit}
 use Rattle.algebra.proofs.TableLaws.{tab-length, tab-at}
 use Rattle.rules.specs.Frames.{Frame, row, cell, turned, corner}
+pub use Rattle.rules.specs.Frames.{Square}
 use Rattle.rules.specs.Bits.{stride, bitAt, wordOf, frameOf}
 
 -- n rows of n bits
-abbrev pub Square : ℕ → Frame → Type 0
-Square n f = (length f ≡ n) × ((i : ℕ) → i < n → length (row f i) ≡ n)
-
 -- ---- known by their bits
 
 pub word-ext : (n : ℕ) (w u : Word) → length w ≡ n → length u ≡ n → ((j : ℕ) → j < n → bit w j ≡ bit u j) → w ≡ u

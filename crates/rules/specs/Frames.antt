@@ -1,9 +1,10 @@
 -- Document 01, "Frame and bytes": the frame.
+use mathlib.Core.Path.{_≡_}
 use mathlib.Core.Bool.{Bool, true, false, not}
 use mathlib.Core.List.{List, []}
-use Prim.Native.Nat.{ℕ, _+_}
+use Prim.Native.Nat.{ℕ, _+_, _<_}
 use lib.Dec.{eqb}
-use lib.ListN.{getD}
+use lib.ListN.{length, getD}
 use Rattle.algebra.specs.Tables.{tab, count}
 use Rattle.algebra.specs.Words.{Word, bit}
 use Rattle.rules.specs.Words.{dataBits, isCodeword, encodeWord}
@@ -14,6 +15,10 @@ Frame = List Word
 
 unfoldable pub row : Frame → ℕ → Word
 row f i = getD f i []
+
+-- "n rows of n bits"
+abbrev pub Square : ℕ → Frame → Type 0
+Square n f = (length f ≡ n) × ((i : ℕ) → i < n → length (row f i) ≡ n)
 
 -- bit j of row i
 abbrev pub cell : Frame → ℕ → ℕ → Bool

@@ -4,3 +4,4 @@ pub mod Frames
 pub mod Bits
 pub mod Passes
 pub mod Numbers
+pub mod Damage

@@ -1,0 +1,135 @@
+-- One step of the passes, by its ending; words of one direction under a pass.
+-- Assumes nothing.
+use mathlib.Core.Path.{_≡_, refl, sym, ap, ap₂, _∙_}
+use mathlib.Core.Bool.{Bool, true, false, cond}
+use Prim.Native.Nat.{ℕ, zero, suc, _+_, _≤_, _<_}
+use native.Mathlib.Omega.{arith}
+use lib.ListN.{length}
+use Rattle.algebra.specs.Words.{Word}
+use Rattle.algebra.specs.Remainder.{isOdd}
+use Rattle.algebra.proofs.TableLaws.{tab-length}
+use Rattle.rules.specs.Words.{answer, places, mend}
+use Rattle.rules.specs.Frames.{Frame, Square, row, turned, isFrame}
+use Rattle.rules.specs.Passes.{
+  passRows,
+  passColumns,
+  pass,
+  differences,
+  clean,
+  repaired,
+  stuck,
+  spent,
+  Outcome,
+  good,
+  bad,
+  isStuck,
+  passesFrom,
+  decoded,
+}
+use Rattle.rules.proofs.Shape.{row-tab, turned-square}
+use Rattle.rules.proofs.PatternLaws.{changed-length}
+
+-- ---- the start
+
+module _ (n a : ℕ) (f : Frame) where
+  abbrev begun : Bool → Outcome
+  begun true = good clean 0 0 f
+  begun false = passesFrom n a 0 0 f
+
+  begins : decoded n a f ≡ begun (isFrame n f)
+  unfolding decoded
+  begins = go (isFrame n f)
+    where
+      go : (b : Bool) → elim b as (λ x. Outcome) [ true ↦ good clean 0 0 f | false ↦ passesFrom n a 0 0 f ] ≡ begun b
+      go true = refl
+      go false = refl
+
+  pub decoded-clean : isFrame n f ≡ true → decoded n a f ≡ good clean 0 0 f
+  decoded-clean h = begins ∙ ap begun h
+
+  pub decoded-passes : isFrame n f ≡ false → decoded n a f ≡ passesFrom n a 0 0 f
+  decoded-passes h = begins ∙ ap begun h
+
+-- ---- after a pass: the first of the three endings that holds, or one more pass
+
+module _ (n left made flips : ℕ) (f : Frame) where
+  abbrev after : Frame
+  after = pass n (suc made) f
+
+  abbrev changes : ℕ
+  changes = differences n f after
+
+  abbrev chosen : Bool → Bool → Outcome
+  chosen true s = good repaired (suc made) (flips + changes) after
+  chosen false true = bad stuck (suc made) (flips + changes) n after
+  chosen false false = passesFrom n left (suc made) (flips + changes) after
+
+  steps : passesFrom n (suc left) made flips f ≡ chosen (isFrame n after) (isStuck (suc made) changes)
+  unfolding passesFrom
+  steps = go (isFrame n after) (isStuck (suc made) changes)
+    where
+      go :
+          (b s : Bool)
+          → elim b as (λ x. Outcome) [
+            | true ↦ good repaired (suc made) (flips + changes) after
+            | false ↦ elim s as (λ x. Outcome) [
+              | true ↦ bad stuck (suc made) (flips + changes) n after
+              | false ↦ passesFrom n left (suc made) (flips + changes) after
+            ]
+          ]
+          ≡ chosen b s
+      go true s = refl
+      go false true = refl
+      go false false = refl
+
+  pub step-repaired : isFrame n after ≡ true → passesFrom n (suc left) made flips f ≡ good repaired (suc made) (flips + changes) after
+  step-repaired h = steps ∙ ap (λ b. chosen b (isStuck (suc made) changes)) h
+
+  pub step-stuck :
+      isFrame n after ≡ false → isStuck (suc made) changes ≡ true
+      → passesFrom n (suc left) made flips f ≡ bad stuck (suc made) (flips + changes) n after
+  step-stuck h s = steps ∙ ap₂ chosen h s
+
+  pub step-on :
+      isFrame n after ≡ false → isStuck (suc made) changes ≡ false
+      → passesFrom n (suc left) made flips f ≡ passesFrom n left (suc made) (flips + changes) after
+  step-on h s = steps ∙ ap₂ chosen h s
+
+pub step-spent : (n made flips : ℕ) (f : Frame) → passesFrom n 0 made flips f ≡ bad spent made flips n f
+unfolding passesFrom
+step-spent n made flips f = refl
+
+-- ---- which way a pass goes
+
+pub pass-one : (n : ℕ) (f : Frame) → pass n 1 f ≡ passRows n f
+unfolding pass
+pass-one n f = refl
+
+pub pass-two : (n : ℕ) (f : Frame) → pass n 2 f ≡ passColumns n f
+unfolding pass
+pass-two n f = refl
+
+-- ---- a pass keeps the shape
+
+pub mend-length : (n : ℕ) (w : Word) → length (mend n w) ≡ length w
+unfolding mend
+mend-length n w = changed-length (places (answer n w)) w
+
+pub passRows-row : (n : ℕ) (f : Frame) (i : ℕ) → i < n → row (passRows n f) i ≡ mend n (row f i)
+unfolding passRows
+passRows-row n f i h = row-tab n (λ i. mend n (row f i)) i h
+
+pub passRows-square : (n : ℕ) (f : Frame) → Square n f → Square n (passRows n f)
+unfolding passRows
+passRows-square n f s = (
+  tab-length n (λ i. mend n (row f i)),
+  λ i h. ap length (passRows-row n f i h) ∙ mend-length n (row f i) ∙ s .1 i h,
+)
+
+pub pass-square : (n p : ℕ) (f : Frame) → Square n f → Square n (pass n p f)
+unfolding pass passColumns
+pass-square n p f s = go (isOdd p)
+  where
+    go : (b : Bool) → Square n (cond b (passRows n f) (passColumns n f))
+    go true = passRows-square n f s
+    go false = turned-square n (passRows n (turned n f))
