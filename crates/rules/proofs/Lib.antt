@@ -11,3 +11,5 @@ pub mod Answers
 pub mod PassLaws
 pub mod TwoPasses
 pub mod RepairFrames
+pub mod Bench
+pub mod Limit

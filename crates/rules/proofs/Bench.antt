@@ -1,0 +1,136 @@
+-- Document 01, "Bench items (starred: to be shown)": all of them, as one table under one statement.
+-- Assumes nothing.
+use mathlib.Core.Path.{_≡_, refl}
+use mathlib.Core.Bool.{Bool, true, false, xor}
+use mathlib.Core.List.{List, [], _∷_, _++_, map}
+use Prim.Native.Nat.{ℕ, _+_}
+use lib.ListN.{replicate}
+use Rattle.algebra.specs.Xor.{_⊕_}
+use Rattle.algebra.specs.Tables.{tabFrom, tab, ones, sum, total}
+use Rattle.algebra.specs.Words.{bit, _⊻_}
+use Rattle.algebra.specs.Remainder.{shift, register, descend, binary, systematic}
+use Rattle.rules.specs.Words.{
+  poly,
+  g,
+  remainder,
+  checks,
+  isCodeword,
+  encodeWord,
+  values,
+  exactly,
+  within,
+  nearest,
+  codeword,
+  onePlace,
+  twoPlaces,
+  beyond,
+  asAnswer,
+  answer,
+  isIn,
+  changed,
+  mend,
+}
+use Rattle.rules.specs.Frames.{row, turned, badRows, badColumns, isFrame, rowsFirst}
+use Rattle.rules.specs.Bits.{rowBytes, bitAt, wordOf, frameOf, packed, wordBytes, bytesOf, sparesSet}
+use Rattle.rules.specs.Passes.{clean, repaired, stuck, spent, passRows, passColumns, pass, differences, passesFrom, decoded}
+use Rattle.rules.specs.Numbers.{
+  frameBytes,
+  encodeNumber,
+  encodeOutput,
+  Decoded,
+  refused,
+  ended,
+  decodeRefusal,
+  decodeSaid,
+  decodeOutput,
+  WordSaid,
+  answered,
+  wordRefusal,
+  wordSaid,
+  wordOutput,
+}
+
+-- what is asked of an entry point; every lent output is full of nines
+pub data Asked : Type 0 where
+  -- n, allowance, received bytes
+  decode : ℕ → ℕ → List ℕ → Asked
+  -- n, data
+  encode : ℕ → List ℕ → Asked
+  -- n, received bytes
+  word : ℕ → List ℕ → Asked
+  -- n, a frame's bytes: how many of its code bits are ones
+  weigh : ℕ → List ℕ → Asked
+
+-- what is said, and what stands in the output then
+pub data Got : Type 0 where
+  decodes : Decoded → List ℕ → Got
+  encodes : ℕ → List ℕ → Got
+  words : WordSaid → List ℕ → Got
+  weighs : ℕ → Got
+
+unfoldable pub nines : ℕ → List ℕ
+nines m = replicate m 9
+
+unfoldable pub got : Asked → Got
+got (decode n a s) = decodes (decodeSaid n a s (nines (frameBytes n))) (decodeOutput n a s (nines (frameBytes n)))
+got (encode n d) = encodes (encodeNumber n d (nines (frameBytes n))) (encodeOutput n d (nines (frameBytes n)))
+got (word n s) = words (wordSaid n s (nines (rowBytes n))) (wordOutput n s (nines (rowBytes n)))
+got (weigh n s) = weighs (total n (λ i. ones (row (frameOf n s) i)))
+
+-- "zero, and B7 B1 C0", each as one row of 18 bits
+abbrev o : List ℕ
+o = 0x00 ∷ 0x00 ∷ 0x00 ∷ []
+
+abbrev c : List ℕ
+c = 0xB7 ∷ 0xB1 ∷ 0xC0 ∷ []
+
+abbrev all : List ℕ
+all = 0xFF ∷ 0xFF ∷ 0xC0 ∷ []
+
+abbrev zeros : ℕ → List ℕ
+zeros m = replicate m 0
+
+-- "row i is B7 B1 C0 where bit i of that word is one, else zero"
+abbrev square : List ℕ
+square = c ++ o ++ c ++ c ++ o ++ c ++ c ++ c ++ c ++ o ++ c ++ c ++ o ++ o ++ o ++ c ++ c ++ c
+
+-- the nine bits of item D
+abbrev nine : List ℕ
+nine = 0xE0 ∷ 0 ∷ 0 ∷ 0xE0 ∷ 0 ∷ 0 ∷ 0xE0 ∷ 0 ∷ 0 ∷ zeros 45
+
+unfoldable pub table : List (Asked × Got)
+table =
+    -- A: all zero: clean
+    (decode 18 2 (zeros 54), decodes (ended clean 0 0 0 0) (zeros 54))
+    -- B: bits 0 and 1 of row 0 set: repaired in 1 pass, 2 flips
+    ∷ (decode 18 2 (0xC0 ∷ zeros 53), decodes (ended repaired 1 2 0 0) (zeros 54))
+    -- C: rows 0 and 1 all ones: 2 passes, 36 flips
+    ∷ (decode 18 2 (all ++ all ++ zeros 48), decodes (ended repaired 2 36 0 0) (zeros 54))
+    -- with allowance 1: spent, 1 pass, 0 flips, 2 rows, 18 columns
+    ∷ (decode 18 1 (all ++ all ++ zeros 48), decodes (ended spent 1 0 2 18) (all ++ all ++ zeros 48))
+    -- D: bits 0..2 of rows 0..2 set: stuck after 2 passes, 3 rows, 3 columns
+    ∷ (decode 18 2 nine, decodes (ended stuck 2 0 3 3) nine)
+    -- data bit 1
+    ∷ (encode 18 (0x80 ∷ []), encodes 0 square)
+    -- 144 ones
+    ∷ (weigh 18 square, weighs 144)
+    -- word of 18 with only bit 17 set: zero, one place
+    ∷ (word 18 (0x00 ∷ 0x00 ∷ 0x40 ∷ []), words (answered (onePlace 17)) o)
+    -- word of 18 with bits 0, 1, 2 set: number 9
+    ∷ (word 18 (0xE0 ∷ 0x00 ∷ 0x00 ∷ []), words (answered beyond) (0xE0 ∷ 0x00 ∷ 0x00 ∷ []))
+    -- word of 256 ones: a codeword
+    ∷ (word 256 (replicate 32 0xFF), words (answered codeword) (replicate 32 0xFF))
+    -- of 255 ones, and of 254: number 9
+    ∷ (word 255 (replicate 31 0xFF ++ 0xFE ∷ []), words (answered beyond) (replicate 31 0xFF ++ 0xFE ∷ []))
+    ∷ (word 254 (replicate 31 0xFF ++ 0xFC ∷ []), words (answered beyond) (replicate 31 0xFF ++ 0xFC ∷ []))
+    -- A with a spare bit set: clean, output all zero
+    ∷ (decode 18 2 (0x00 ∷ 0x00 ∷ 0x20 ∷ zeros 51), decodes (ended clean 0 0 0 0) (zeros 54))
+    ∷ []
+
+-- the statement
+abbrev pub Bench : Type 0
+Bench = map (λ item. got (item .0)) table ≡ map (λ item. item .1) table
+
+pub bench : Bench
+unfolding _⊕_ tabFrom tab ones sum bit _⊻_ xor shift register descend binary systematic poly g remainder checks isCodeword encodeWord values exactly within nearest asAnswer answer isIn changed mend row turned badRows badColumns isFrame rowsFirst bitAt wordOf frameOf packed wordBytes bytesOf sparesSet passRows passColumns pass differences passesFrom decoded encodeNumber encodeOutput decodeRefusal decodeSaid decodeOutput wordRefusal wordSaid wordOutput nines got table
+bench = refl
