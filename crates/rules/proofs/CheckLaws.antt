@@ -17,17 +17,19 @@ use Rattle.algebra.proofs.XorLaws.{⊕-zero, zero-⊕}
 use Rattle.algebra.proofs.WordLaws.{dot-⊻, dot-++, ones-++, ⊻-length}
 use Rattle.algebra.proofs.ParityLaws.{parity-add, pairs, dot-parity}
 use Rattle.algebra.proofs.RemainderLaws.{register-start, powersDown-length}
-use Rattle.rules.specs.Words.{poly, g, remainder, checks, isCodeword, Codeword, values}
+use Rattle.rules.specs.Field.{poly}
+use Rattle.rules.specs.Words.{g, remainder, checks, isCodeword, Codeword, values}
 
 -- g without its highest term
-abbrev pub low : ℕ
-low = 28515
+unfoldable pub low : ℕ
+low = g - 2 ^ 16
 
 pub low-small : low < 2 ^ 16
+unfolding low g poly
 low-small = lit< tt
 
 pub g-low : g ≡ 2 ^ 16 + low
-unfolding g poly
+unfolding low g poly
 g-low = refl
 
 -- a word is all but its last bit, and that

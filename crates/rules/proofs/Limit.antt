@@ -11,8 +11,8 @@ use Rattle.algebra.specs.Xor.{_⊕_}
 use Rattle.algebra.specs.Tables.{tabFrom, tab, ones, sum}
 use Rattle.algebra.specs.Words.{bit, _⊻_}
 use Rattle.algebra.specs.Remainder.{shift, register, descend, binary, systematic}
+use Rattle.rules.specs.Field.{poly}
 use Rattle.rules.specs.Words.{
-  poly,
   g,
   remainder,
   checks,

@@ -11,6 +11,8 @@ use Rattle.algebra.specs.Linear.{Additive, lin}
 use Rattle.algebra.proofs.LinearLaws.{lin-additive, agrees}
 use Rattle.algebra.proofs.RegisterLaws.{carry-tested}
 use Rattle.algebra.proofs.Inverse.{rebuilt, inverse-tested}
+use Rattle.rules.specs.Field.{poly}
+use Rattle.rules.specs.Words.{g}
 use Rattle.rules.proofs.CheckLaws.{low, low-small}
 
 -- a^0 .. a^15: what S₁ makes of 1, z, .., z^15
@@ -34,11 +36,11 @@ part zero = lin columns₁
 part (suc r) = lin columns₃
 
 carried₁ : (e : ℕ) → lin columns₁ (iter e (turn 15 low) 1) ≡ iter (1 * e) (turn 7 29) 1
-unfolding agrees iter turn lin columns₁ _⊕_
+unfolding agrees iter turn lin columns₁ _⊕_ low g poly
 carried₁ = carry-tested 15 low 7 29 1 (lin columns₁) low-small (lin-additive columns₁) refl tt
 
 carried₃ : (e : ℕ) → lin columns₃ (iter e (turn 15 low) 1) ≡ iter (3 * e) (turn 7 29) 1
-unfolding agrees iter turn lin columns₃ _⊕_
+unfolding agrees iter turn lin columns₃ _⊕_ low g poly
 carried₃ = carry-tested 15 low 7 29 3 (lin columns₃) low-small (lin-additive columns₃) refl tt
 
 pub part-additive : (r : ℕ) → r < 2 → Additive (part r)

@@ -1,4 +1,5 @@
 -- Document 01, in its own order. Read the files in this order.
+pub mod Field
 pub mod Words
 pub mod Frames
 pub mod Bits

@@ -1,4 +1,4 @@
--- Document 01, "Field and word".
+-- Document 01, "Field and word": the word.
 use mathlib.Core.Bool.{Bool, true, false, cond, xor, _||_}
 use mathlib.Core.List.{List, [], _∷_, _++_, map}
 use mathlib.Core.Option.{Option, some, none}
@@ -10,19 +10,7 @@ use Rattle.algebra.specs.Xor.{_⊕_}
 use Rattle.algebra.specs.Tables.{tab, ones}
 use Rattle.algebra.specs.Words.{Word, bit}
 use Rattle.algebra.specs.Remainder.{register, powersDown, isOdd, systematic}
-
--- the polynomial with these exponents; its coefficients are the number's binary digits
-unfoldable pub poly : List ℕ → ℕ
-poly [] = 0
-poly (e ∷ es) = 2 ^ e + poly es
-
--- "a a root of z^8+z^4+z^3+z^2+1"
-unfoldable pub minimal₁ : ℕ
-minimal₁ = poly (8 ∷ 4 ∷ 3 ∷ 2 ∷ 0 ∷ [])
-
--- "The minimal polynomial of a^3 is z^8+z^6+z^5+z^4+z^2+z+1."
-unfoldable pub minimal₃ : ℕ
-minimal₃ = poly (8 ∷ 6 ∷ 5 ∷ 4 ∷ 2 ∷ 1 ∷ 0 ∷ [])
+use Rattle.rules.specs.Field.{poly}
 
 -- "g = z^16+z^14+z^13+z^11+z^10+z^9+z^8+z^6+z^5+z+1"
 unfoldable pub g : ℕ

@@ -1,0 +1,163 @@
+-- The promise about encoding: data has exactly one frame, and encoding gives it, rows first or columns first.
+-- Assumes nothing.
+use mathlib.Core.Path.{_≡_, refl, sym, ap, _∙_}
+use mathlib.Core.Bool.{true}
+use Prim.Native.Nat.{ℕ, _≤_, _<_}
+use native.Mathlib.Omega.{arith}
+use lib.ListN.{length}
+use Rattle.algebra.specs.Tables.{tab}
+use Rattle.algebra.specs.Words.{Word, bit}
+use Rattle.algebra.proofs.TableLaws.{tab-length}
+use Rattle.rules.specs.Words.{dataBits, encodeWord}
+use Rattle.rules.specs.Frames.{Frame, row, cell, turned, isFrame, corner, rowsFirst, columnsFirst}
+use Rattle.rules.proofs.Shape.{Square, word-ext, square-ext, bit-tab, row-tab, turned-square, turned-cell, turned-twice, corner-square, corner-cell}
+use Rattle.rules.proofs.FrameLaws.{Rows, frame-rows, frame-columns, rows-columns-frame, frame-turned}
+use Rattle.rules.proofs.EncodeWordLaws.{encode-length, encode-data, encode-codeword, codeword-unique}
+use Rattle.rules.proofs.ProductLaws.{rows-carry}
+
+-- what document 01 says of encoding the data d to n rows of n bits
+pub record Encoded (n : ℕ) (d : Frame) : Type 0 where
+  pub square : Square n (rowsFirst n d)
+  -- "every row and every column a codeword"
+  pub frame : isFrame n (rowsFirst n d) ≡ true
+  -- "Data is k rows of k bits, kept in the frame's upper left corner."
+  pub holds : corner (dataBits n) (rowsFirst n d) ≡ d
+  -- "Encoding rows first or columns first gives the same frame."
+  pub order : columnsFirst n d ≡ rowsFirst n d
+  -- no other frame holds this data
+  pub only : (f : Frame) → Square n f → isFrame n f ≡ true → corner (dataBits n) f ≡ d → f ≡ rowsFirst n d
+
+abbrev pub Encodes : Type 0
+Encodes = (n : ℕ) (d : Frame) → 18 ≤ n → Square (dataBits n) d → Encoded n d
+
+-- ---- a frame is determined by its data
+
+-- rows that are codewords, and agree in their first k bits
+rows-unique :
+    (n : ℕ) (f h : Frame) → 18 ≤ n → Square n f → Square n h → Rows n f → Rows n h
+    → ((i j : ℕ) → i < n → j < dataBits n → cell f i j ≡ cell h i j) → f ≡ h
+rows-unique n f h le sf sh rf rh e =
+    square-ext n f h sf sh
+    (λ i j hi hj.
+    ap (λ (w : Word). bit w j)
+    (codeword-unique n (row f i) (row h i) le (sf .1 i hi) (sh .1 i hi) (rf i hi) (rh i hi) (λ j hj. e i j hi hj)))
+
+pub frame-unique :
+    (n : ℕ) (f h : Frame) → 18 ≤ n → Square n f → Square n h → isFrame n f ≡ true → isFrame n h ≡ true
+    → corner (dataBits n) f ≡ corner (dataBits n) h → f ≡ h
+frame-unique n f h le sf sh ff fh e =
+    sym (turned-twice n f sf)
+    ∙ ap (turned n)
+    (rows-unique n (turned n f) (turned n h) le (turned-square n f) (turned-square n h) (frame-columns n f ff) (frame-columns n h fh) upper)
+    ∙ turned-twice n h sh
+  where
+    data-cell : (i j : ℕ) → i < dataBits n → j < dataBits n → cell f i j ≡ cell h i j
+    data-cell i j hi hj =
+        sym (corner-cell (dataBits n) f i j hi hj) ∙ ap (λ (x : Frame). cell x i j) e ∙ corner-cell (dataBits n) h i j hi hj
+
+    -- the first k rows agree
+    upper : (j i : ℕ) → j < n → i < dataBits n → cell (turned n f) j i ≡ cell (turned n h) j i
+    upper j i hj hi =
+        let hn : i < n = omega arith in
+        turned-cell n f j i hj hn
+        ∙ ap (λ (w : Word). bit w j)
+        (codeword-unique n (row f i) (row h i) le (sf .1 i hn) (sh .1 i hn) (frame-rows n f ff i hn) (frame-rows n h fh i hn)
+        (λ j hj. data-cell i j hi hj))
+        ∙ sym (turned-cell n h j i hj hn)
+
+-- ---- rows first
+
+module _ (n : ℕ) (d : Frame) (le : 18 ≤ n) (s : Square (dataBits n) d) where
+  -- the data of column j: bit j of each encoded row
+  above : ℕ → Word
+  above j = tab (dataBits n) (λ i. bit (encodeWord (row d i)) j)
+
+  columns : Frame
+  columns = tab n (λ j. encodeWord (above j))
+
+  above-length : (j : ℕ) → length (above j) ≡ dataBits n
+  unfolding above
+  above-length j = tab-length (dataBits n) (λ i. bit (encodeWord (row d i)) j)
+
+  columns-row : (j : ℕ) → j < n → row columns j ≡ encodeWord (above j)
+  unfolding columns
+  columns-row j hj = row-tab n (λ j. encodeWord (above j)) j hj
+
+  columns-square : Square n columns
+  unfolding columns
+  columns-square = (
+    tab-length n (λ j. encodeWord (above j)),
+    λ j hj. ap length (columns-row j hj) ∙ encode-length n (above j) le (above-length j),
+  )
+
+  rowsFirst-is : rowsFirst n d ≡ turned n columns
+  unfolding rowsFirst columns above
+  rowsFirst-is = refl
+
+  rowsFirst-square : Square n (rowsFirst n d)
+  rowsFirst-square = rw rowsFirst-is (turned-square n columns)
+
+  columns-codewords : Rows n (turned n (rowsFirst n d))
+  columns-codewords j hj =
+      rw (rowsFirst-is, turned-twice n columns columns-square, columns-row j hj) (encode-codeword n (above j) le (above-length j))
+
+  row-length : (i : ℕ) → i < dataBits n → length (encodeWord (row d i)) ≡ n
+  row-length i hi = encode-length n (row d i) le (s .1 i hi)
+
+  -- encoding the columns leaves the first k rows as they were
+  upper-row : (i : ℕ) → i < dataBits n → row (rowsFirst n d) i ≡ encodeWord (row d i)
+  unfolding above
+  upper-row i hi =
+      let hn : i < n = omega arith in
+      word-ext n (row (rowsFirst n d) i) (encodeWord (row d i)) (rowsFirst-square .1 i hn) (row-length i hi)
+      (λ j hj.
+      ap (λ (f : Frame). cell f i j) rowsFirst-is ∙ turned-cell n columns i j hn hj
+      ∙ ap (λ (w : Word). bit w i) (columns-row j hj)
+      ∙ encode-data (above j) i (omega (arith, above-length j))
+      ∙ bit-tab (dataBits n) (λ i. bit (encodeWord (row d i)) j) i hi)
+
+  rowsFirst-frame : isFrame n (rowsFirst n d) ≡ true
+  rowsFirst-frame =
+      rows-columns-frame n (rowsFirst n d)
+      (rows-carry n (rowsFirst n d) le rowsFirst-square columns-codewords
+      (λ i hi. rw (upper-row i hi) (encode-codeword n (row d i) le (s .1 i hi))))
+      columns-codewords
+
+  rowsFirst-holds : corner (dataBits n) (rowsFirst n d) ≡ d
+  rowsFirst-holds =
+      square-ext (dataBits n) (corner (dataBits n) (rowsFirst n d)) d (corner-square (dataBits n) (rowsFirst n d)) s
+      (λ i j hi hj.
+      corner-cell (dataBits n) (rowsFirst n d) i j hi hj ∙ ap (λ (w : Word). bit w j) (upper-row i hi)
+      ∙ encode-data (row d i) j (omega (arith, s .1 i hi)))
+
+  rowsFirst-only : (f : Frame) → Square n f → isFrame n f ≡ true → corner (dataBits n) f ≡ d → f ≡ rowsFirst n d
+  rowsFirst-only f sf ff e = frame-unique n f (rowsFirst n d) le sf rowsFirst-square ff rowsFirst-frame (e ∙ sym rowsFirst-holds)
+
+-- a frame turned holds its data turned
+corner-turned :
+    (n : ℕ) (f d : Frame) → Square (dataBits n) d → corner (dataBits n) f ≡ turned (dataBits n) d
+    → corner (dataBits n) (turned n f) ≡ d
+corner-turned n f d s e =
+    square-ext (dataBits n) (corner (dataBits n) (turned n f)) d (corner-square (dataBits n) (turned n f)) s
+    (λ i j hi hj.
+    corner-cell (dataBits n) (turned n f) i j hi hj ∙ turned-cell n f i j (omega arith) (omega arith)
+    ∙ sym (corner-cell (dataBits n) f j i hj hi) ∙ ap (λ (x : Frame). cell x j i) e ∙ turned-cell (dataBits n) d j i hj hi)
+
+columns-order : (n : ℕ) (d : Frame) → 18 ≤ n → Square (dataBits n) d → columnsFirst n d ≡ rowsFirst n d
+unfolding columnsFirst
+columns-order n d le s =
+    let t : Frame = turned (dataBits n) d in
+    let st : Square (dataBits n) t = turned-square (dataBits n) d in
+    let f : Frame = rowsFirst n t in
+    rowsFirst-only n d le s (turned n f) (turned-square n f)
+    (frame-turned n f (rowsFirst-square n t le st) (rowsFirst-frame n t le st))
+    (corner-turned n f d s (rowsFirst-holds n t le st))
+
+pub encoding : Encodes
+encoding n d le s = record {
+  square = rowsFirst-square n d le s;
+  frame = rowsFirst-frame n d le s;
+  holds = rowsFirst-holds n d le s;
+  order = columns-order n d le s;
+  only = rowsFirst-only n d le s;
+}

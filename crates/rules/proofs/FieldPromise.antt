@@ -1,0 +1,48 @@
+-- Document 01's sentences on the field, and on g.
+-- Assumes nothing.
+use mathlib.Core.Path.{_≡_, refl, sym, ap, _∙_}
+use mathlib.Core.List.{List, [], _∷_}
+use Prim.Native.Nat.{ℕ, zero, suc, _+_, _*_, _^_, _≤_, _<_}
+use lib.ListN.{getD}
+use Rattle.algebra.specs.Xor.{_⊕_}
+use Rattle.algebra.specs.Register.{iter, turn}
+use Rattle.algebra.specs.Tables.{tab, tabFrom}
+use Rattle.algebra.specs.Sums.{xsum}
+use Rattle.algebra.specs.Field256.{powers, logs}
+use Rattle.algebra.proofs.Field256Laws.{powers256-at, round256, powers256-logs, logs256-lt}
+use Rattle.rules.specs.Field.{poly, minimal₁, minimal₃, timesA, power, valueAt, product}
+use Rattle.rules.specs.Words.{g}
+
+pub record FieldPromise : Type 0 where
+  -- "a a root of z^8+z^4+z^3+z^2+1"
+  pub root₁ : valueAt 1 minimal₁ ≡ 0
+  -- "Powers from a^0: 1, 2, 4, 8, 16, 32, 64, 128, 29, 58, 116, 232, 205, 135, 19, 38"
+  pub listed :
+      tab 16 power
+      ≡ 1 ∷ 2 ∷ 4 ∷ 8 ∷ 16 ∷ 32 ∷ 64 ∷ 128 ∷ 29 ∷ 58 ∷ 116 ∷ 232 ∷ 205 ∷ 135 ∷ 19 ∷ 38 ∷ []
+  -- "a^255 = 1"
+  pub round : power 255 ≡ 1
+  -- "The field has 256 elements": each but 0 is a power
+  pub whole : (x : ℕ) → 1 ≤ x → x < 256 → (e : ℕ) × (e < 255) × (power e ≡ x)
+  -- "The minimal polynomial of a^3 is z^8+z^6+z^5+z^4+z^2+z+1."
+  pub root₃ : valueAt 3 minimal₃ ≡ 0
+  -- "The product of the two is g"
+  pub product-g : product minimal₁ minimal₃ ≡ g
+
+power-is : (e : ℕ) → power e ≡ iter e (turn 7 29) 1
+unfolding power timesA poly
+power-is e = refl
+
+pub field-promise : FieldPromise
+unfolding _⊕_ iter turn tab tabFrom xsum poly minimal₁ minimal₃ timesA power valueAt product g
+field-promise =
+    record {
+      root₁ = refl;
+      listed = refl;
+      round = power-is 255 ∙ round256;
+      whole = λ x lo hi.
+          let e : ℕ = getD logs x 0 in
+          (e, logs256-lt x lo hi, power-is e ∙ sym (powers256-at e (logs256-lt x lo hi)) ∙ powers256-logs x lo hi);
+      root₃ = refl;
+      product-g = refl;
+    }

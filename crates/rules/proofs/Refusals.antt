@@ -1,0 +1,236 @@
+-- Document 01's table of numbers, of every entry point: which can occur, and what stands in the output for each.
+-- Assumes nothing.
+use mathlib.Core.Path.{_≡_, refl, sym, ap, _∙_}
+use mathlib.Core.Logic.{_≢_, _⊎_, inl, inr}
+use mathlib.Core.Bool.{Bool, true, false, not}
+use mathlib.Core.List.{List, [], _∷_, _++_}
+use Prim.Native.Nat.{ℕ, _+_, _*_, _≤_, _<_}
+use native.Mathlib.Nat.{suc-mul, mul-le-mul-right}
+use native.Mathlib.Decide.{ℕ-discrete}
+use native.Mathlib.Omega.{arith}
+use lib.Dec.{eqb, ltb}
+use lib.ListN.{length, take, drop, length-drop}
+use lib.Seq.{length-take-le}
+use borrow.Author.Tests.{ltb-true, not-false}
+use Rattle.rules.specs.Words.{dataBits, Answer, codeword, onePlace, twoPlaces, beyond, answer, mend, isIn}
+use Rattle.rules.specs.Frames.{Frame, isFrame, corner, rowsFirst}
+use Rattle.rules.specs.Bits.{rowBytes, wordOf, frameOf, wordBytes, bytesOf, sparesSet}
+use Rattle.rules.specs.Passes.{Ending, clean, repaired, stuck, spent, Outcome, decoded}
+use Rattle.rules.specs.Numbers.{pick, outside, notLong, notAllowed, dataBytes, frameBytes, encodeNumber, encodeOutput, readNumber, readOutput, refused, told, handedOut, decodeRefusal, decodeSaid, decodeOutput, endingNumber, number, wordRefused, answered, wordRefusal, wordSaid, wordNumber, wordOutput, rowPart}
+use Rattle.rules.proofs.PackLaws.{bytesOf-length, wordBytes-length}
+use Rattle.rules.proofs.NumberLaws.{range-test, equal-test, checked-in, last-in, encode-accepts, read-accepts, decode-accepts, word-accepts, at-zero, at-other, at-either}
+use Rattle.rules.proofs.OneOfLaws.{OneOf, one-of-cons, one-of-back, one-of-front, allIn, one-of-range}
+
+-- the table's rows for one entry point: the number given, and what the output holds then
+pub record Table (refusals endings : List ℕ) (given : ℕ) (accepted input output out : List ℕ) : Type 0 where
+  pub one : OneOf given (0 ∷ refusals ++ endings)
+  -- "the frame, data or word"
+  pub done : given ≡ 0 → out ≡ accepted
+  -- "untouched"
+  pub untouched : OneOf given refusals → out ≡ output
+  -- "the received bytes, spare bits too"
+  pub received : OneOf given endings → out ≡ input
+  pub long : length out ≡ length output
+
+pub record Refuses : Type 0 where
+  pub encode :
+      (n : ℕ) (input output : List ℕ)
+      → Table (1 ∷ 2 ∷ 3 ∷ 5 ∷ []) [] (encodeNumber n input output) (bytesOf n (rowsFirst n (frameOf (dataBits n) input))) input output
+      (encodeOutput n input output)
+  pub read :
+      (n : ℕ) (input output : List ℕ)
+      → Table (1 ∷ 2 ∷ 3 ∷ 6 ∷ []) [] (readNumber n input output) (bytesOf (dataBits n) (corner (dataBits n) (frameOf n input))) input output
+      (readOutput n input output)
+  pub decode :
+      (n allowance : ℕ) (input output : List ℕ)
+      → Table (1 ∷ 2 ∷ 3 ∷ 4 ∷ []) (7 ∷ 8 ∷ []) (number (decodeSaid n allowance input output))
+      (bytesOf n (decoded n allowance (frameOf n input) .last)) input output (decodeOutput n allowance input output)
+  pub word :
+      (n : ℕ) (input output : List ℕ)
+      → Table (1 ∷ 2 ∷ 3 ∷ []) (9 ∷ []) (wordNumber (wordSaid n input output)) (wordBytes n (mend n (wordOf n input 0))) input output
+      (wordOutput n input output)
+  -- "an empty part and no number; a good row has at least 3 bytes"
+  pub row :
+      (n : ℕ) (input : List ℕ) (i : ℕ)
+      → (rowPart n input i ≡ []) ⊎ ((length (rowPart n input i) ≡ rowBytes n) × (3 ≤ rowBytes n))
+
+-- ---- the table, from the number of the refusal and that of the ending
+
+-- refusals are 1..6, endings 7..9
+module _ (refusals endings : List ℕ) (low : allIn 1 6 refusals ≡ true) (high : allIn 7 9 endings ≡ true) where
+  small : (x : ℕ) → OneOf x (0 ∷ refusals) → x < 7
+  small x h = go (one-of-cons x 0 refusals h)
+    where
+      go : (x ≡ 0) ⊎ OneOf x refusals → x < 7
+      go (inl e) = omega arith
+      go (inr e) = omega (arith, one-of-range 1 6 x refusals low e)
+
+  ending-all : (x : ℕ) → OneOf x (0 ∷ endings) → OneOf x (0 ∷ refusals ++ endings)
+  unfolding isIn
+  ending-all x h = go (one-of-cons x 0 endings h)
+    where
+      go : (x ≡ 0) ⊎ OneOf x endings → OneOf x (0 ∷ refusals ++ endings)
+      go (inl e) = rw e refl
+      go (inr e) = one-of-back x (0 ∷ refusals) endings e
+
+  ending-apart : (x : ℕ) → OneOf x (0 ∷ endings) → OneOf x refusals → ⊥
+  ending-apart x h k = go (one-of-cons x 0 endings h)
+    where
+      go : (x ≡ 0) ⊎ OneOf x endings → ⊥
+      go (inl e) = omega (arith, one-of-range 1 6 x refusals low k)
+      go (inr e) = omega (arith, one-of-range 1 6 x refusals low k, one-of-range 7 9 x endings high e)
+
+  table :
+      (r e given : ℕ) (inner accepted input output : List ℕ) → given ≡ pick (eqb r 0) e r
+      → OneOf r (0 ∷ refusals) → OneOf e (0 ∷ endings) → (r ≡ 0 → inner ≡ pick (eqb e 0) accepted input)
+      → (r ≡ 0 → (length accepted ≡ length output) × (e ≢ 0 → length input ≡ length output))
+      → Table refusals endings given accepted input output (pick (eqb r 0) inner output)
+  table r e given inner accepted input output is hr he hi hl = go (ℕ-discrete r 0)
+    where
+      go : Dec (r ≡ 0) → Table refusals endings given accepted input output (pick (eqb r 0) inner output)
+      go (yes z) =
+          let g : given ≡ e = is ∙ at-zero r e r z in
+          let o : pick (eqb r 0) inner output ≡ pick (eqb e 0) accepted input = at-zero r inner output z ∙ hi z in
+          record {
+            one = rw g (ending-all e he);
+            done = λ q. o ∙ at-zero e accepted input (sym g ∙ q);
+            untouched = λ q. absurd (ending-apart e he (rw g at q));
+            received = λ q.
+                let q′ : OneOf e endings = rw g at q in
+                o ∙ at-other e accepted input (λ p. omega (arith, one-of-range 7 9 e endings high q′));
+            long = ap length o ∙ at-either (λ s. length s ≡ length output) e accepted input (λ p. hl z .0) (λ p. hl z .1 p);
+          }
+      go (no z) =
+          let g : given ≡ r = is ∙ at-other r e r z in
+          let o : pick (eqb r 0) inner output ≡ output = at-other r inner output z in
+          record {
+            one = rw g (one-of-front r (0 ∷ refusals) endings hr);
+            done = λ q. absurd (z (sym g ∙ q));
+            untouched = λ q. o;
+            received = λ q.
+                let q′ : OneOf r endings = rw g at q in
+                absurd (omega (arith, small r hr, one-of-range 7 9 r endings high q′));
+            long = ap length o;
+          }
+
+-- ---- encoding and reading: no endings
+
+plain :
+    (refusals : List ℕ) → allIn 1 6 refusals ≡ true → (r : ℕ) (accepted input output : List ℕ) → OneOf r (0 ∷ refusals)
+    → (r ≡ 0 → length accepted ≡ length output) → Table refusals [] r accepted input output (pick (eqb r 0) accepted output)
+unfolding isIn allIn
+plain refusals low r accepted input output hr hl =
+    table refusals [] low refl r 0 r accepted accepted input output (at-either (λ x. r ≡ x) r 0 r (λ z. z) (λ z. refl)) hr refl (λ z. refl)
+    (λ z. (hl z, λ p. absurd (p refl)))
+
+-- ---- decoding
+
+ending-in : (e : Ending) → OneOf (endingNumber e) (0 ∷ 7 ∷ 8 ∷ [])
+unfolding isIn
+ending-in clean = refl
+ending-in repaired = refl
+ending-in stuck = refl
+ending-in spent = refl
+
+handed :
+    (n : ℕ) (input : List ℕ) (e : Ending) (passes flips rows columns : ℕ) (f : Frame)
+    → handedOut n input (record { ending = e; passes = passes; flips = flips; rows = rows; columns = columns; last = f })
+    ≡ pick (eqb (endingNumber e) 0) (bytesOf n f) input
+handed n input clean passes flips rows columns f = refl
+handed n input repaired passes flips rows columns f = refl
+handed n input stuck passes flips rows columns f = refl
+handed n input spent passes flips rows columns f = refl
+
+-- a function of what was picked
+pick-ap {ℓ} : {A : Type ℓ} (f : A → ℕ) (b : Bool) (x y : A) → f (pick b x y) ≡ pick b (f x) (f y)
+pick-ap f true x y = refl
+pick-ap f false x y = refl
+
+decode-table :
+    (n allowance : ℕ) (input output : List ℕ)
+    → Table (1 ∷ 2 ∷ 3 ∷ 4 ∷ []) (7 ∷ 8 ∷ []) (number (decodeSaid n allowance input output))
+    (bytesOf n (decoded n allowance (frameOf n input) .last)) input output (decodeOutput n allowance input output)
+unfolding decodeRefusal decodeSaid decodeOutput allIn
+decode-table n allowance input output =
+    let r : ℕ = decodeRefusal n allowance input output in
+    let o : Outcome = decoded n allowance (frameOf n input) in
+    table (1 ∷ 2 ∷ 3 ∷ 4 ∷ []) (7 ∷ 8 ∷ []) refl refl r (endingNumber (o .ending)) (number (decodeSaid n allowance input output))
+    (handedOut n input o) (bytesOf n (o .last)) input output (pick-ap number (eqb r 0) (told o) (refused r))
+    (last-in n input (frameBytes n) output (frameBytes n) (notAllowed allowance) 4) (ending-in (o .ending))
+    (λ z. handed n input (o .ending) (o .passes) (o .flips) (o .rows) (o .columns) (o .last))
+    (λ z.
+    let f = decode-accepts n allowance input output .0 z .0 in
+    (bytesOf-length n (o .last) ∙ sym (f .lent), λ p. f .taken ∙ sym (f .lent)))
+
+-- ---- a single word
+
+word-in : (n : ℕ) (input output : List ℕ) → OneOf (wordRefusal n input output) (0 ∷ 1 ∷ 2 ∷ 3 ∷ [])
+unfolding wordRefusal isIn
+word-in n input output = checked-in n input (rowBytes n) output (rowBytes n) 0 (0 ∷ 1 ∷ 2 ∷ 3 ∷ []) refl refl refl refl
+
+answer-in : (a : Answer) → OneOf (wordNumber (answered a)) (0 ∷ 9 ∷ [])
+unfolding isIn
+answer-in codeword = refl
+answer-in (onePlace p) = refl
+answer-in (twoPlaces p q) = refl
+answer-in beyond = refl
+
+word-table :
+    (n : ℕ) (input output : List ℕ)
+    → Table (1 ∷ 2 ∷ 3 ∷ []) (9 ∷ []) (wordNumber (wordSaid n input output)) (wordBytes n (mend n (wordOf n input 0))) input output
+    (wordOutput n input output)
+unfolding wordSaid wordOutput allIn
+word-table n input output =
+    let r : ℕ = wordRefusal n input output in
+    let a : Answer = answer n (wordOf n input 0) in
+    let w : List ℕ = wordBytes n (mend n (wordOf n input 0)) in
+    let given : ℕ = wordNumber (wordSaid n input output) in
+    table (1 ∷ 2 ∷ 3 ∷ []) (9 ∷ []) refl refl r (wordNumber (answered a)) given (pick (eqb given 0) w input) w input output
+    (pick-ap wordNumber (eqb r 0) (answered a) (wordRefused r)) (word-in n input output) (answer-in a)
+    (λ z. ap (λ s. pick (eqb (wordNumber s) 0) w input) (at-zero r (answered a) (wordRefused r) z))
+    (λ z.
+    let f = word-accepts n input output .0 z in
+    (wordBytes-length n (mend n (wordOf n input 0)) ∙ sym (f .lent), λ p. f .taken ∙ sym (f .lent)))
+
+-- ---- a row
+
+abbrev RowOr : ℕ → List ℕ → Type 0
+RowOr n part = (part ≡ []) ⊎ ((length part ≡ rowBytes n) × (3 ≤ rowBytes n))
+
+unless : (n : ℕ) (b : Bool) (part : List ℕ) → (b ≡ false → RowOr n part) → RowOr n (pick b [] part)
+unless n true part h = inl refl
+unless n false part h = h refl
+
+good-row :
+    (n : ℕ) (input : List ℕ) (i : ℕ) → 18 ≤ n → length input ≡ frameBytes n → i < n
+    → (length (take (rowBytes n) (drop (i * rowBytes n) input)) ≡ rowBytes n) × (3 ≤ rowBytes n)
+good-row n input i le long h =
+    let r : ℕ = rowBytes n in
+    let fits : i * r + r ≤ n * r = omega (arith, suc-mul i r, mul-le-mul-right r h) in
+    (length-take-le r (drop (i * r) input) (omega (arith, length-drop (i * r) input)), omega arith)
+
+row-or : (n : ℕ) (input : List ℕ) (i : ℕ) → RowOr n (rowPart n input i)
+unfolding rowPart
+row-or n input i =
+    let part : List ℕ = take (rowBytes n) (drop (i * rowBytes n) input) in
+    let third : List ℕ = pick (not (ltb i n)) [] part in
+    unless n (outside n) (pick (notLong input (frameBytes n)) [] third)
+    (λ a. unless n (notLong input (frameBytes n)) third
+    (λ b. unless n (not (ltb i n)) part
+    (λ c. inr (good-row n input i (range-test 18 256 n .0 a .0) (equal-test (length input) (frameBytes n) .0 b) (ltb-true i n (not-false (ltb i n) c))))))
+
+pub refuses : Refuses
+unfolding encodeNumber encodeOutput readNumber readOutput allIn
+refuses = record {
+  encode = λ n input output.
+      let new : List ℕ = bytesOf n (rowsFirst n (frameOf (dataBits n) input)) in
+      plain (1 ∷ 2 ∷ 3 ∷ 5 ∷ []) refl (encodeNumber n input output) new input output (last-in n input (dataBytes n) output (frameBytes n) (not (eqb (sparesSet (dataBits n) input) 0)) 5)
+      (λ z. bytesOf-length n (rowsFirst n (frameOf (dataBits n) input)) ∙ sym (encode-accepts n input output .0 z .0 .lent));
+  read = λ n input output.
+      let new : List ℕ = bytesOf (dataBits n) (corner (dataBits n) (frameOf n input)) in
+      plain (1 ∷ 2 ∷ 3 ∷ 6 ∷ []) refl (readNumber n input output) new input output (last-in n input (frameBytes n) output (dataBytes n) (not (isFrame n (frameOf n input))) 6)
+      (λ z. bytesOf-length (dataBits n) (corner (dataBits n) (frameOf n input)) ∙ sym (read-accepts n input output .0 z .0 .lent));
+  decode = decode-table;
+  word = word-table;
+  row = row-or;
+}

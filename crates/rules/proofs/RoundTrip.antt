@@ -1,0 +1,104 @@
+-- The promise about bytes: what encoding writes is read and decoded back, whatever the spare bits.
+-- Assumes nothing.
+use mathlib.Core.Path.{_≡_, refl, sym, ap, _∙_}
+use mathlib.Core.Bool.{true}
+use mathlib.Core.List.{List}
+use Prim.Native.Nat.{ℕ, _≤_, _<_}
+use lib.ListN.{length, getD}
+use Rattle.rules.specs.Words.{dataBits}
+use Rattle.rules.specs.Frames.{Frame, isFrame, corner, rowsFirst}
+use Rattle.rules.specs.Bits.{frameOf, bytesOf, sparesSet}
+use Rattle.rules.specs.Passes.{clean, Outcome, good, decoded}
+use Rattle.rules.specs.Numbers.{dataBytes, frameBytes, encodeNumber, encodeOutput, readNumber, readOutput, refused, ended, told, handedOut, decodeRefusal, decodeSaid, decodeOutput}
+use Rattle.rules.proofs.Shape.{frameOf-square}
+use Rattle.rules.proofs.PackLaws.{bytesOf-length, frame-of-bytes, bytes-of-frame, spares-of-bytes}
+use Rattle.rules.proofs.PassLaws.{decoded-clean}
+use Rattle.rules.proofs.Encoding.{Encoded, encoding}
+use Rattle.rules.proofs.NumberLaws.{Fits, encode-accepts, read-accepts, decode-accepts, at-zero}
+
+-- a list whose code bits are those that encoding wrote: spare bits set in any way
+abbrev pub Received : ℕ → List ℕ → List ℕ → List ℕ → Type 0
+Received n input output s = (length s ≡ frameBytes n) × (frameOf n s ≡ frameOf n (encodeOutput n input output))
+
+-- what document 01 says of input that encoding accepted
+pub record Trip (n : ℕ) (input output : List ℕ) : Type 0 where
+  pub written : encodeOutput n input output ≡ bytesOf n (rowsFirst n (frameOf (dataBits n) input))
+  -- so what is said below of any such list is said of what was written
+  pub received : Received n input output (encodeOutput n input output)
+  -- "The encoder writes spare bits as zero"
+  pub spares : sparesSet n (encodeOutput n input output) ≡ 0
+  -- "Reading data takes no notice of the frame's spare bits and writes the data's as zero."
+  pub reads :
+      (s back : List ℕ) → Received n input output s → length back ≡ dataBytes n
+      → (readNumber n s back ≡ 0) × (readOutput n s back ≡ input)
+  -- "If it is a frame of codewords, it is clean, with 0 passes."
+  pub decodes :
+      (s out : List ℕ) (allowance : ℕ) → Received n input output s → length out ≡ frameBytes n → 1 ≤ allowance → allowance ≤ 32
+      → (decodeSaid n allowance s out ≡ ended clean 0 0 0 0) × (decodeOutput n allowance s out ≡ encodeOutput n input output)
+
+abbrev pub RoundTrips : Type 0
+RoundTrips =
+    (n : ℕ) (input output : List ℕ) → ((p : ℕ) → getD input p 0 < 256) → encodeNumber n input output ≡ 0 → Trip n input output
+
+-- ---- a frame of codewords is read, and is clean
+
+-- f, in a list of bytes with the spare bits as they may be
+module _ (n : ℕ) (s : List ℕ) (le : 18 ≤ n) (most : n ≤ 256) (long : length s ≡ frameBytes n) (f : Frame) (is : frameOf n s ≡ f) (code : isFrame n f ≡ true) where
+  read-frame :
+      (back : List ℕ) → length back ≡ dataBytes n → (readNumber n s back ≡ 0) × (readOutput n s back ≡ bytesOf (dataBits n) (corner (dataBits n) f))
+  unfolding readOutput
+  read-frame back e =
+      let z : readNumber n s back ≡ 0 =
+      read-accepts n s back .1 (record { from = le; upTo = most; taken = long; lent = e }, rw is code) in
+      (z, at-zero (readNumber n s back) (bytesOf (dataBits n) (corner (dataBits n) (frameOf n s))) back z ∙ rw is)
+
+  decode-frame :
+      (out : List ℕ) (allowance : ℕ) → length out ≡ frameBytes n → 1 ≤ allowance → allowance ≤ 32
+      → (decodeSaid n allowance s out ≡ ended clean 0 0 0 0) × (decodeOutput n allowance s out ≡ bytesOf n f)
+  unfolding decodeSaid decodeOutput
+  decode-frame out allowance e lo hi =
+      let r : ℕ = decodeRefusal n allowance s out in
+      let z : r ≡ 0 = decode-accepts n allowance s out .1 (record { from = le; upTo = most; taken = long; lent = e }, (lo, hi)) in
+      let o : Outcome = decoded n allowance (frameOf n s) in
+      let c : o ≡ good clean 0 0 f = ap (decoded n allowance) is ∙ decoded-clean n allowance f code in (
+        at-zero r (told o) (refused r) z ∙ ap told c,
+        at-zero r (handedOut n s o) out z ∙ ap (handedOut n s) c,
+      )
+
+-- ---- what encoding wrote
+
+abbrev frame : ℕ → List ℕ → Frame
+frame n input = rowsFirst n (frameOf (dataBits n) input)
+
+module _ (n : ℕ) (input output : List ℕ) (zero : encodeNumber n input output ≡ 0) where
+  accepted : Fits n input (dataBytes n) output (frameBytes n) × (sparesSet (dataBits n) input ≡ 0)
+  accepted = encode-accepts n input output .0 zero
+
+  encoded : Encoded n (frameOf (dataBits n) input)
+  encoded = encoding n (frameOf (dataBits n) input) (accepted .0 .from) (frameOf-square (dataBits n) input)
+
+  is-written : encodeOutput n input output ≡ bytesOf n (frame n input)
+  unfolding encodeOutput
+  is-written = at-zero (encodeNumber n input output) (bytesOf n (frame n input)) output zero
+
+  -- the frame, where it was received
+  is-frame : (s : List ℕ) → frameOf n s ≡ frameOf n (encodeOutput n input output) → frameOf n s ≡ frame n input
+  is-frame s e = e ∙ ap (frameOf n) is-written ∙ frame-of-bytes n (frame n input) (encoded .square)
+
+pub round-trips : RoundTrips
+round-trips n input output bytes zero =
+    let a = accepted n input output zero in
+    let f : Frame = frame n input in
+    let w = is-written n input output zero in
+    let e = encoded n input output zero in
+    record {
+      written = w;
+      received = (ap length w ∙ bytesOf-length n f, refl);
+      spares = ap (sparesSet n) w ∙ spares-of-bytes n f (e .square);
+      reads = λ s back r h.
+          let p = read-frame n s (a .0 .from) (a .0 .upTo) (r .0) f (is-frame n input output zero s (r .1)) (e .frame) back h in
+          (p .0, p .1 ∙ ap (bytesOf (dataBits n)) (e .holds) ∙ bytes-of-frame (dataBits n) input (a .0 .taken) bytes (a .1));
+      decodes = λ s out allowance r h lo hi.
+          let p = decode-frame n s (a .0 .from) (a .0 .upTo) (r .0) f (is-frame n input output zero s (r .1)) (e .frame) out allowance h lo hi in
+          (p .0, p .1 ∙ sym w);
+    }
