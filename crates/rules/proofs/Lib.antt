@@ -21,5 +21,6 @@ pub mod Encoding
 pub mod RoundTrip
 pub mod Refusals
 pub mod RepairFrames
+pub mod Repair
 pub mod Bench
 pub mod Limit

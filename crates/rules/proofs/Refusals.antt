@@ -1,9 +1,9 @@
 -- Document 01's table of numbers, of every entry point: which can occur, and what stands in the output for each.
 -- Assumes nothing.
 use mathlib.Core.Path.{_≡_, refl, sym, ap, _∙_}
-use mathlib.Core.Logic.{_≢_, _⊎_, inl, inr}
-use mathlib.Core.Bool.{Bool, true, false, not}
-use mathlib.Core.List.{List, [], _∷_, _++_}
+use mathlib.Core.Logic.{_≢_, _↔_, _⊎_, inl, inr}
+use mathlib.Core.Bool.{Bool, true, false, not, _||_, true≢false}
+use mathlib.Core.List.{List, [], _∷_, _++_, map}
 use Prim.Native.Nat.{ℕ, _+_, _*_, _≤_, _<_}
 use native.Mathlib.Nat.{suc-mul, mul-le-mul-right}
 use native.Mathlib.Decide.{ℕ-discrete}
@@ -11,12 +11,12 @@ use native.Mathlib.Omega.{arith}
 use lib.Dec.{eqb, ltb}
 use lib.ListN.{length, take, drop, length-drop}
 use lib.Seq.{length-take-le}
-use borrow.Author.Tests.{ltb-true, not-false}
+use borrow.Author.Tests.{ltb-true, lt-ltb, not-false}
 use Rattle.rules.specs.Words.{dataBits, Answer, codeword, onePlace, twoPlaces, beyond, answer, mend, isIn}
 use Rattle.rules.specs.Frames.{Frame, isFrame, corner, rowsFirst}
 use Rattle.rules.specs.Bits.{rowBytes, wordOf, frameOf, wordBytes, bytesOf, sparesSet}
 use Rattle.rules.specs.Passes.{Ending, clean, repaired, stuck, spent, Outcome, decoded}
-use Rattle.rules.specs.Numbers.{pick, outside, notLong, notAllowed, dataBytes, frameBytes, encodeNumber, encodeOutput, readNumber, readOutput, refused, told, handedOut, decodeRefusal, decodeSaid, decodeOutput, endingNumber, number, wordRefused, answered, wordRefusal, wordSaid, wordNumber, wordOutput, rowPart}
+use Rattle.rules.specs.Numbers.{pick, outside, notLong, notAllowed, dataBytes, frameBytes, encodeNumber, encodeOutput, readNumber, readOutput, refused, told, handedOut, decodeRefusal, decodeSaid, decodeOutput, endingNumber, number, wordRefused, answered, wordRefusal, wordSaid, wordNumber, wordOutput, Checks, first, encodeChecks, readChecks, decodeChecks, wordChecks, rowRefused, rowPart}
 use Rattle.rules.proofs.PackLaws.{bytesOf-length, wordBytes-length}
 use Rattle.rules.proofs.NumberLaws.{range-test, equal-test, checked-in, last-in, encode-accepts, read-accepts, decode-accepts, word-accepts, at-zero, at-other, at-either}
 use Rattle.rules.proofs.OneOfLaws.{OneOf, one-of-cons, one-of-back, one-of-front, allIn, one-of-range}
@@ -31,6 +31,23 @@ pub record Table (refusals endings : List ℕ) (given : ℕ) (accepted input out
   -- "the received bytes, spare bits too"
   pub received : OneOf given endings → out ≡ input
   pub long : length out ≡ length output
+
+-- "n or length wrong, or i not below n" is not so
+abbrev pub GoodRow : ℕ → List ℕ → ℕ → Type 0
+GoodRow n input i = (18 ≤ n) × (n ≤ 256) × (length input ≡ frameBytes n) × (i < n)
+
+-- the bytes of row i
+abbrev pub part : ℕ → List ℕ → ℕ → List ℕ
+part n input i = take (rowBytes n) (drop (i * rowBytes n) input)
+
+-- the numbers of some checks
+abbrev pub numbers : Checks → List ℕ
+numbers checks = map (λ check. check .1) checks
+
+-- r is the number of the first check that applies, or 0 where none does
+abbrev pub Given : Checks → ℕ → Type 0
+Given [] r = r ≡ 0
+Given (check ∷ later) r = ((check .0 ≡ true) × (r ≡ check .1)) ⊎ ((check .0 ≡ false) × Given later r)
 
 pub record Refuses : Type 0 where
   pub encode :
@@ -49,10 +66,18 @@ pub record Refuses : Type 0 where
       (n : ℕ) (input output : List ℕ)
       → Table (1 ∷ 2 ∷ 3 ∷ []) (9 ∷ []) (wordNumber (wordSaid n input output)) (wordBytes n (mend n (wordOf n input 0))) input output
       (wordOutput n input output)
-  -- "an empty part and no number; a good row has at least 3 bytes"
   pub row :
       (n : ℕ) (input : List ℕ) (i : ℕ)
-      → (rowPart n input i ≡ []) ⊎ ((length (rowPart n input i) ≡ rowBytes n) × (3 ≤ rowBytes n))
+      → (GoodRow n input i → (rowPart n input i ≡ part n input i) × (length (part n input i) ≡ rowBytes n) × (3 ≤ rowBytes n))
+      × (¬ GoodRow n input i → rowPart n input i ≡ [])
+  -- "Checks go in order of number; the first that applies is given"
+  pub order :
+      (n allowance : ℕ) (input output : List ℕ)
+      → (numbers (encodeChecks n input output) ≡ 1 ∷ 2 ∷ 3 ∷ 5 ∷ [])
+      × (numbers (readChecks n input output) ≡ 1 ∷ 2 ∷ 3 ∷ 6 ∷ [])
+      × (numbers (decodeChecks n allowance input output) ≡ 1 ∷ 2 ∷ 3 ∷ 4 ∷ [])
+      × (numbers (wordChecks n input output) ≡ 1 ∷ 2 ∷ 3 ∷ [])
+  pub applies : (checks : Checks) → Given checks (first checks)
 
 -- ---- the table, from the number of the refusal and that of the ending
 
@@ -194,13 +219,6 @@ word-table n input output =
 
 -- ---- a row
 
-abbrev RowOr : ℕ → List ℕ → Type 0
-RowOr n part = (part ≡ []) ⊎ ((length part ≡ rowBytes n) × (3 ≤ rowBytes n))
-
-unless : (n : ℕ) (b : Bool) (part : List ℕ) → (b ≡ false → RowOr n part) → RowOr n (pick b [] part)
-unless n true part h = inl refl
-unless n false part h = h refl
-
 good-row :
     (n : ℕ) (input : List ℕ) (i : ℕ) → 18 ≤ n → length input ≡ frameBytes n → i < n
     → (length (take (rowBytes n) (drop (i * rowBytes n) input)) ≡ rowBytes n) × (3 ≤ rowBytes n)
@@ -209,15 +227,53 @@ good-row n input i le long h =
     let fits : i * r + r ≤ n * r = omega (arith, suc-mul i r, mul-le-mul-right r h) in
     (length-take-le r (drop (i * r) input) (omega (arith, length-drop (i * r) input)), omega arith)
 
-row-or : (n : ℕ) (input : List ℕ) (i : ℕ) → RowOr n (rowPart n input i)
+or-false : (a b c : Bool) → (a || b || c) ≡ false → (a ≡ false) × (b ≡ false) × (c ≡ false)
+or-false true b c h = absurd (true≢false h)
+or-false false true c h = absurd (true≢false h)
+or-false false false c h = (refl, refl, h)
+
+false-or : (a b c : Bool) → a ≡ false → b ≡ false → c ≡ false → (a || b || c) ≡ false
+false-or a b c ha hb hc = rw (ha, hb, hc)
+
+row-test : (n : ℕ) (input : List ℕ) (i : ℕ) → (rowRefused n input i ≡ false) ↔ GoodRow n input i
+row-test n input i = (
+  λ h.
+      let t = or-false (outside n) (notLong input (frameBytes n)) (not (ltb i n)) h in
+      let r = range-test 18 256 n .0 (t .0) in
+      (r .0, r .1, equal-test (length input) (frameBytes n) .0 (t .1), ltb-true i n (not-false (ltb i n) (t .2))),
+  λ h.
+      false-or (outside n) (notLong input (frameBytes n)) (not (ltb i n)) (range-test 18 256 n .1 (h .0, h .1))
+      (equal-test (length input) (frameBytes n) .1 (h .2)) (ap not (lt-ltb i n (h .3))),
+)
+
+row-good :
+    (n : ℕ) (input : List ℕ) (i : ℕ) → GoodRow n input i
+    → (rowPart n input i ≡ part n input i) × (length (part n input i) ≡ rowBytes n) × (3 ≤ rowBytes n)
 unfolding rowPart
-row-or n input i =
-    let part : List ℕ = take (rowBytes n) (drop (i * rowBytes n) input) in
-    let third : List ℕ = pick (not (ltb i n)) [] part in
-    unless n (outside n) (pick (notLong input (frameBytes n)) [] third)
-    (λ a. unless n (notLong input (frameBytes n)) third
-    (λ b. unless n (not (ltb i n)) part
-    (λ c. inr (good-row n input i (range-test 18 256 n .0 a .0) (equal-test (length input) (frameBytes n) .0 b) (ltb-true i n (not-false (ltb i n) c))))))
+row-good n input i h =
+    let g = good-row n input i (h .0) (h .2) (h .3) in
+    (ap (λ b. pick b [] (part n input i)) (row-test n input i .1 h), g .0, g .1)
+
+row-bad : (n : ℕ) (input : List ℕ) (i : ℕ) → ¬ GoodRow n input i → rowPart n input i ≡ []
+unfolding rowPart
+row-bad n input i k = go (rowRefused n input i) refl
+  where
+    go : (b : Bool) → rowRefused n input i ≡ b → pick b [] (part n input i) ≡ []
+    go true q = refl
+    go false q = absurd (k (row-test n input i .0 q))
+
+-- ---- the order of the checks
+
+first-given : (checks : Checks) → Given checks (first checks)
+first-given [] = refl
+first-given (check ∷ later) = go (check .0) refl (first-given later)
+  where
+    go :
+        (b : Bool) → check .0 ≡ b → Given later (first later)
+        → ((check .0 ≡ true) × (pick b (check .1) (first later) ≡ check .1))
+        ⊎ ((check .0 ≡ false) × Given later (pick b (check .1) (first later)))
+    go true q rest = inl (q, refl)
+    go false q rest = inr (q, rest)
 
 pub refuses : Refuses
 unfolding encodeNumber encodeOutput readNumber readOutput allIn
@@ -232,5 +288,7 @@ refuses = record {
       (λ z. bytesOf-length (dataBits n) (corner (dataBits n) (frameOf n input)) ∙ sym (read-accepts n input output .0 z .0 .lent));
   decode = decode-table;
   word = word-table;
-  row = row-or;
+  row = λ n input i. (row-good n input i, row-bad n input i);
+  order = λ n allowance input output. (refl, refl, refl, refl);
+  applies = first-given;
 }

@@ -67,22 +67,22 @@ module _ (n : ℕ) (s : List ℕ) (le : 18 ≤ n) (most : n ≤ 256) (long : len
 
 -- ---- what encoding wrote
 
-abbrev frame : ℕ → List ℕ → Frame
+abbrev pub frame : ℕ → List ℕ → Frame
 frame n input = rowsFirst n (frameOf (dataBits n) input)
 
 module _ (n : ℕ) (input output : List ℕ) (zero : encodeNumber n input output ≡ 0) where
-  accepted : Fits n input (dataBytes n) output (frameBytes n) × (sparesSet (dataBits n) input ≡ 0)
+  pub accepted : Fits n input (dataBytes n) output (frameBytes n) × (sparesSet (dataBits n) input ≡ 0)
   accepted = encode-accepts n input output .0 zero
 
-  encoded : Encoded n (frameOf (dataBits n) input)
+  pub encoded : Encoded n (frameOf (dataBits n) input)
   encoded = encoding n (frameOf (dataBits n) input) (accepted .0 .from) (frameOf-square (dataBits n) input)
 
-  is-written : encodeOutput n input output ≡ bytesOf n (frame n input)
+  pub is-written : encodeOutput n input output ≡ bytesOf n (frame n input)
   unfolding encodeOutput
   is-written = at-zero (encodeNumber n input output) (bytesOf n (frame n input)) output zero
 
   -- the frame, where it was received
-  is-frame : (s : List ℕ) → frameOf n s ≡ frameOf n (encodeOutput n input output) → frameOf n s ≡ frame n input
+  pub is-frame : (s : List ℕ) → frameOf n s ≡ frameOf n (encodeOutput n input output) → frameOf n s ≡ frame n input
   is-frame s e = e ∙ ap (frameOf n) is-written ∙ frame-of-bytes n (frame n input) (encoded .square)
 
 pub round-trips : RoundTrips

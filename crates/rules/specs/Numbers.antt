@@ -1,7 +1,7 @@
 -- Document 01, "Numbers returned, and what stands in the output": each entry point from its arguments, what the lent output held
 -- included, to what is said and what the output holds then.
-use mathlib.Core.Bool.{Bool, true, false, not, _&&_}
-use mathlib.Core.List.{List, []}
+use mathlib.Core.Bool.{Bool, true, false, not, _&&_, _||_}
+use mathlib.Core.List.{List, [], _∷_}
 use Prim.Native.Nat.{ℕ, zero, suc, _*_}
 use lib.Dec.{eqb, leb, ltb}
 use lib.ListN.{length, take, drop}
@@ -32,13 +32,28 @@ frameBytes n = squareBytes n
 abbrev pub dataBytes : ℕ → ℕ
 dataBytes n = squareBytes (dataBits n)
 
+-- what a check tests, and the number that it gives
+abbrev pub Checks : Type 0
+Checks = List (Bool × ℕ)
+
+-- "Checks go in order of number; the first that applies is given, and none is given otherwise."
+abbrev pub first : Checks → ℕ
+first [] = 0
+first (check ∷ later) = pick (check .0) (check .1) (first later)
+
+-- "input length is not exactly that of n", "output length is not exact"
+abbrev pub sizeChecks : ℕ → List ℕ → ℕ → List ℕ → ℕ → Checks → Checks
+sizeChecks n input takes output gives later = (outside n, 1) ∷ (notLong input takes, 2) ∷ (notLong output gives, 3) ∷ later
+
 -- ---- Encoding: the number, and the output
 
+-- "data has a spare bit set (encoding)"
+abbrev pub encodeChecks : ℕ → List ℕ → List ℕ → Checks
+encodeChecks n input output =
+    sizeChecks n input (dataBytes n) output (frameBytes n) ((not (eqb (sparesSet (dataBits n) input) 0), 5) ∷ [])
+
 unfoldable pub encodeNumber : ℕ → List ℕ → List ℕ → ℕ
-encodeNumber n input output =
-    pick (outside n) 1
-    (pick (notLong input (dataBytes n)) 2
-    (pick (notLong output (frameBytes n)) 3 (pick (not (eqb (sparesSet (dataBits n) input) 0)) 5 0)))
+encodeNumber n input output = first (encodeChecks n input output)
 
 unfoldable pub encodeOutput : ℕ → List ℕ → List ℕ → List ℕ
 encodeOutput n input output =
@@ -46,11 +61,13 @@ encodeOutput n input output =
 
 -- ---- Reading data: the number, and the output
 
+-- "not a frame of codewords, code bits only (reading data)"
+abbrev pub readChecks : ℕ → List ℕ → List ℕ → Checks
+readChecks n input output =
+    sizeChecks n input (frameBytes n) output (dataBytes n) ((not (isFrame n (frameOf n input)), 6) ∷ [])
+
 unfoldable pub readNumber : ℕ → List ℕ → List ℕ → ℕ
-readNumber n input output =
-    pick (outside n) 1
-    (pick (notLong input (frameBytes n)) 2
-    (pick (notLong output (dataBytes n)) 3 (pick (not (isFrame n (frameOf n input))) 6 0)))
+readNumber n input output = first (readChecks n input output)
 
 unfoldable pub readOutput : ℕ → List ℕ → List ℕ → List ℕ
 readOutput n input output =
@@ -63,10 +80,12 @@ pub data Decoded : Type 0 where
   -- passes, flips, rows, columns
   ended : Ending → ℕ → ℕ → ℕ → ℕ → Decoded
 
+abbrev pub decodeChecks : ℕ → ℕ → List ℕ → List ℕ → Checks
+decodeChecks n allowance input output =
+    sizeChecks n input (frameBytes n) output (frameBytes n) ((notAllowed allowance, 4) ∷ [])
+
 unfoldable pub decodeRefusal : ℕ → ℕ → List ℕ → List ℕ → ℕ
-decodeRefusal n allowance input output =
-    pick (outside n) 1
-    (pick (notLong input (frameBytes n)) 2 (pick (notLong output (frameBytes n)) 3 (pick (notAllowed allowance) 4 0)))
+decodeRefusal n allowance input output = first (decodeChecks n allowance input output)
 
 abbrev pub told : Outcome → Decoded
 told o = ended (o .ending) (o .passes) (o .flips) (o .rows) (o .columns)
@@ -119,9 +138,11 @@ pub data WordSaid : Type 0 where
   wordRefused : ℕ → WordSaid
   answered : Answer → WordSaid
 
+abbrev pub wordChecks : ℕ → List ℕ → List ℕ → Checks
+wordChecks n input output = sizeChecks n input (rowBytes n) output (rowBytes n) []
+
 unfoldable pub wordRefusal : ℕ → List ℕ → List ℕ → ℕ
-wordRefusal n input output =
-    pick (outside n) 1 (pick (notLong input (rowBytes n)) 2 (pick (notLong output (rowBytes n)) 3 0))
+wordRefusal n input output = first (wordChecks n input output)
 
 unfoldable pub wordSaid : ℕ → List ℕ → List ℕ → WordSaid
 wordSaid n input output =
@@ -141,11 +162,12 @@ wordOutput n input output =
     (pick (eqb (wordNumber (wordSaid n input output)) 0) (wordBytes n (mend n (wordOf n input 0))) input)
     output
 
--- ---- Row i, a part of the caller's own bytes
--- "Asking for a row with n or length wrong, or i not below n, returns an empty part and no number"
+-- ---- Row i, "that part of the caller's own bytes"
 
+-- "n or length wrong, or i not below n"
+abbrev pub rowRefused : ℕ → List ℕ → ℕ → Bool
+rowRefused n input i = outside n || notLong input (frameBytes n) || not (ltb i n)
+
+-- "returns an empty part and no number"
 unfoldable pub rowPart : ℕ → List ℕ → ℕ → List ℕ
-rowPart n input i =
-    pick (outside n) []
-    (pick (notLong input (frameBytes n)) []
-    (pick (not (ltb i n)) [] (take (rowBytes n) (drop (i * rowBytes n) input))))
+rowPart n input i = pick (rowRefused n input i) [] (take (rowBytes n) (drop (i * rowBytes n) input))

@@ -1,0 +1,203 @@
+-- Demand 3 over bytes: what was written comes back, and two written frames, spoiled so, never agree.
+-- Assumes nothing.
+use mathlib.Core.Path.{_≡_, refl, sym, ap, ap₂, _∙_}
+use mathlib.Core.Logic.{_≢_, _⊎_, inl, inr, ⊎-elim}
+use mathlib.Core.Bool.{Bool, true, false, _||_, true≢false}
+use mathlib.Core.List.{List, [], _∷_}
+use Prim.Native.Nat.{ℕ, zero, suc, _+_, _*_, _≤_, _<_}
+use native.Mathlib.Omega.{arith}
+use borrow.Author.Tests.{eq-eqb}
+use lib.Dec.{eqb}
+use lib.ListN.{length}
+use Rattle.rules.specs.Words.{dataBits, isIn}
+use Rattle.rules.specs.Frames.{Frame, Square, isFrame, rowsFirst}
+use Rattle.rules.specs.Bits.{stride, bitAt, wordOf, frameOf, bytesOf}
+use Rattle.rules.specs.Passes.{differences, Ending, clean, repaired, stuck, spent, Outcome, decoded}
+use Rattle.rules.specs.Numbers.{
+  dataBytes,
+  frameBytes,
+  encodeNumber,
+  encodeOutput,
+  refused,
+  told,
+  handedOut,
+  decodeRefusal,
+  decodeSaid,
+  decodeOutput,
+  endingNumber,
+  number,
+  passesOf,
+}
+use Rattle.rules.specs.Damage.{spoilt}
+use Rattle.rules.proofs.Shape.{word-ext, frameOf-square, frameOf-row, wordOf-length, wordOf-bit}
+use Rattle.rules.proofs.PackLaws.{spare-free}
+use Rattle.rules.proofs.NumberLaws.{Fits, decode-accepts, at-zero}
+use Rattle.rules.proofs.Encoding.{Encoded}
+use Rattle.rules.proofs.RoundTrip.{frame, accepted, encoded, is-written, is-frame}
+use Rattle.rules.proofs.RepairFrames.{Restored, repairs-frames, eight, two-rows, spoiled-apart}
+
+-- ---- The statement
+
+-- bytes that encoding wrote
+pub record Written (n : ℕ) (written : List ℕ) : Type 0 where
+  pub input : List ℕ
+  pub blank : List ℕ
+  pub accepts : encodeNumber n input blank ≡ 0
+  pub writes : encodeOutput n input blank ≡ written
+
+-- "spoiled so that at most two rows have three or more wrong bits"; spare bits are no code bits
+abbrev pub Spoiled : ℕ → List ℕ → List ℕ → Type 0
+Spoiled n written received = (length received ≡ frameBytes n) × (spoilt 2 n (frameOf n written) (frameOf n received) ≤ 2)
+
+-- "comes back exactly, in at most two passes"
+pub record Back (n allowance : ℕ) (written received output : List ℕ) : Type 0 where
+  pub zero : number (decodeSaid n allowance received output) ≡ 0
+  pub bytes : decodeOutput n allowance received output ≡ written
+  pub few : passesOf (decodeSaid n allowance received output) ≤ 2
+
+-- all code bits are the same
+abbrev pub Agree : ℕ → List ℕ → List ℕ → Type 0
+Agree n s s′ = (i j : ℕ) → i < n → j < n → bitAt s (i * stride n + j) ≡ bitAt s′ (i * stride n + j)
+
+pub record Repairs : Type 0 where
+  -- "at any allowance of two or more"
+  pub back :
+      (n allowance : ℕ) (written received output : List ℕ) → Written n written → Spoiled n written received → 2 ≤ allowance
+      → allowance ≤ 32 → length output ≡ frameBytes n → Back n allowance written received output
+  -- "No two different written frames, spoiled so, can agree."
+  pub apart :
+      (n : ℕ) (written written′ received received′ : List ℕ) → Written n written → Written n written′ → written ≢ written′
+      → Spoiled n written received → Spoiled n written′ received′ → ¬ Agree n received received′
+  -- any eight wrong bits
+  pub eight-bits :
+      (n : ℕ) (written received : List ℕ) → length received ≡ frameBytes n
+      → differences n (frameOf n written) (frameOf n received) ≤ 8 → Spoiled n written received
+  -- any two rows p and q lost whole
+  pub rows-gone :
+      (n : ℕ) (written received : List ℕ) (p q : ℕ) → length received ≡ frameBytes n
+      → ((i j : ℕ) → i < n → j < n → i ≢ p → i ≢ q → bitAt written (i * stride n + j) ≡ bitAt received (i * stride n + j))
+      → Spoiled n written received
+
+-- ---- The proof
+
+-- a success hands out the last frame
+handed : (n : ℕ) (input : List ℕ) (o : Outcome) → endingNumber (o .ending) ≡ 0 → handedOut n input o ≡ bytesOf n (o .last)
+handed n input o h = go (o .ending) h
+  where
+    go :
+        (e : Ending) → endingNumber e ≡ 0
+        → elim e as (λ x. List ℕ) [ clean ↦ bytesOf n (o .last) | repaired ↦ bytesOf n (o .last) | stuck ↦ input | spent ↦ input ]
+        ≡ bytesOf n (o .last)
+    go clean q = refl
+    go repaired q = refl
+    go stuck q = absurd (omega arith)
+    go spent q = absurd (omega arith)
+
+success-zero : (e : Ending) → (e ≡ clean) ⊎ (e ≡ repaired) → endingNumber e ≡ 0
+success-zero e (inl q) = ap endingNumber q
+success-zero e (inr q) = ap endingNumber q
+
+module _ (n : ℕ) (written : List ℕ) (w : Written n written) where
+  the-frame : Frame
+  the-frame = frame n (w .input)
+
+  ok : Fits n (w .input) (dataBytes n) (w .blank) (frameBytes n)
+  ok = accepted n (w .input) (w .blank) (w .accepts) .0
+
+  made : Encoded n (frameOf (dataBits n) (w .input))
+  made = encoded n (w .input) (w .blank) (w .accepts)
+
+  is-bytes : written ≡ bytesOf n the-frame
+  unfolding the-frame
+  is-bytes = sym (w .writes) ∙ is-written n (w .input) (w .blank) (w .accepts)
+
+  is-the-frame : frameOf n written ≡ the-frame
+  unfolding the-frame
+  is-the-frame = is-frame n (w .input) (w .blank) (w .accepts) written (ap (frameOf n) (sym (w .writes)))
+
+  in-class : (received : List ℕ) → Spoiled n written received → spoilt 2 n the-frame (frameOf n received) ≤ 2
+  in-class received s = rw is-the-frame at (s .1)
+
+  square : Square n the-frame
+  unfolding the-frame
+  square = made .square
+
+  whole : isFrame n the-frame ≡ true
+  unfolding the-frame
+  whole = made .frame
+
+back-here :
+    (n allowance : ℕ) (written received output : List ℕ) → Written n written → Spoiled n written received → 2 ≤ allowance
+    → allowance ≤ 32 → length output ≡ frameBytes n → Back n allowance written received output
+unfolding decodeSaid decodeOutput
+back-here n a written received output w s lo hi lent =
+    let f : Frame = the-frame n written w in
+    let o : Outcome = decoded n a (frameOf n received) in
+    let r : ℕ = decodeRefusal n a received output in
+    let k = ok n written w in
+    let z : r ≡ 0 =
+    decode-accepts n a received output .1
+    (record { from = k .from; upTo = k .upTo; taken = s .0; lent = lent }, (omega arith, hi)) in
+    let b : Restored f o =
+    repairs-frames n a (k .from) (k .upTo) lo f (frameOf n received) (square n written w) (frameOf-square n received)
+    (whole n written w) (in-class n written w received s) in
+    let e : endingNumber (o .ending) ≡ 0 = success-zero (o .ending) (b .success) in
+    let said : decodeSaid n a received output ≡ told o = at-zero r (told o) (refused r) z in
+    record {
+      zero = ap number said ∙ e;
+      bytes = at-zero r (handedOut n received o) output z ∙ handed n received o e ∙ ap (bytesOf n) (b .frame) ∙ sym (is-bytes n written w);
+      few = rw (ap passesOf said) (b .few);
+    }
+
+apart-here :
+    (n : ℕ) (written written′ received received′ : List ℕ) → Written n written → Written n written′ → written ≢ written′
+    → Spoiled n written received → Spoiled n written′ received′ → ¬ Agree n received received′
+apart-here n written written′ received received′ w w′ different s s′ agree =
+    let k = ok n written w in
+    let e : frameOf n received ≡ frameOf n received′ = spare-free n received received′ agree in
+    different
+    (is-bytes n written w
+    ∙ ap (bytesOf n)
+    (spoiled-apart n (k .from) (k .upTo) (the-frame n written w) (the-frame n written′ w′) (frameOf n received)
+    (square n written w) (square n written′ w′) (frameOf-square n received) (whole n written w) (whole n written′ w′)
+    (in-class n written w received s) (rw e (in-class n written′ w′ received′ s′)))
+    ∙ sym (is-bytes n written′ w′))
+
+not-named : (i p q : ℕ) → isIn i (p ∷ q ∷ []) ≡ false → (i ≢ p) × (i ≢ q)
+unfolding isIn
+not-named i p q h =
+    let t = split (eqb i p) (eqb i q) h in
+    (λ e. true≢false (sym (eq-eqb i p e) ∙ t .0), λ e. true≢false (sym (eq-eqb i q e) ∙ t .1))
+  where
+    split : (a b : Bool) → (a || (b || false)) ≡ false → (a ≡ false) × (b ≡ false)
+    split true b h = absurd (true≢false h)
+    split false true h = absurd (true≢false h)
+    split false false h = (refl, refl)
+
+rows-gone-here :
+    (n : ℕ) (written received : List ℕ) (p q : ℕ) → length received ≡ frameBytes n
+    → ((i j : ℕ) → i < n → j < n → i ≢ p → i ≢ q → bitAt written (i * stride n + j) ≡ bitAt received (i * stride n + j))
+    → Spoiled n written received
+rows-gone-here n written received p q long same = (
+  long,
+  two-rows n (frameOf n written) (frameOf n received) p q
+      (λ i l out.
+      let k = not-named i p q out in
+      frameOf-row n written i l
+      ∙ wordOf-ext n written received (i * stride n) (λ j m. same i j l m (k .0) (k .1)) ∙ sym (frameOf-row n received i l)),
+)
+  where
+    wordOf-ext :
+        (n : ℕ) (s t : List ℕ) (start : ℕ) → ((j : ℕ) → j < n → bitAt s (start + j) ≡ bitAt t (start + j)) → wordOf n s start ≡ wordOf n t start
+    wordOf-ext n s t start h =
+        word-ext n (wordOf n s start) (wordOf n t start) (wordOf-length n s start) (wordOf-length n t start)
+        (λ j l. wordOf-bit n s start j l ∙ h j l ∙ sym (wordOf-bit n t start j l))
+
+pub repairs : Repairs
+repairs =
+    record {
+      back = back-here;
+      apart = apart-here;
+      eight-bits = λ n written received long d. (long, eight n (frameOf n written) (frameOf n received) d);
+      rows-gone = rows-gone-here;
+    }
