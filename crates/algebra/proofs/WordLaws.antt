@@ -5,12 +5,13 @@ use mathlib.Core.Bool.{Bool, true, false, xor}
 use mathlib.Core.List.{List, [], _∷_, _++_}
 use Prim.Native.Nat.{ℕ, zero, suc, _+_, _*_, _%_, _≤_, _<_}
 use native.Mathlib.Omega.{arith}
+use lib.Dec.{eqb, eqb·zero-suc, eqb·suc-zero, eqb·suc-suc}
 use lib.ListN.{length, getD}
 use Rattle.algebra.specs.Xor.{_⊕_}
-use Rattle.algebra.specs.Tables.{num, ones}
+use Rattle.algebra.specs.Tables.{tab, num, ones}
 use Rattle.algebra.specs.Words.{Word, bit, _⊻_, differ, kept, dot}
 use Rattle.algebra.proofs.XorLaws.{⊕-swap, ⊕-self, ⊕-zero, zero-⊕, ⊕-assoc, xors}
-use Rattle.algebra.proofs.TableLaws.{num-zero}
+use Rattle.algebra.proofs.TableLaws.{num-zero, tab-suc, tab-ext, zero-count}
 
 -- ---- xor of two bits
 
@@ -148,6 +149,21 @@ dot-none [] (b ∷ w) h = refl
 dot-none (v ∷ vs) [] h = refl
 dot-none (v ∷ vs) (true ∷ w) h = absurd (omega arith)
 dot-none (v ∷ vs) (false ∷ w) h = zero-⊕ (dot vs w) ∙ dot-none vs w (omega arith)
+
+-- one one, one value
+pub dot-one : (vs : List ℕ) (p : ℕ) → p < length vs → dot vs (tab (length vs) (λ j. eqb j p)) ≡ getD vs p 0
+unfolding dot
+dot-one [] p h = absurd (omega arith)
+dot-one (v ∷ vs) zero h =
+    ap (dot (v ∷ vs)) (tab-suc (length vs) (λ j. eqb j 0))
+    ∙ ap (λ m. v ⊕ m)
+    (dot-none vs (tab (length vs) (λ j. eqb (suc j) 0)) (zero-count (length vs) (λ j. eqb (suc j) 0) (λ j l. eqb·suc-zero j)))
+    ∙ ⊕-zero v
+dot-one (v ∷ vs) (suc p) h =
+    ap (dot (v ∷ vs)) (tab-suc (length vs) (λ j. eqb j (suc p)))
+    ∙ ap₂ (λ b w. kept b v ⊕ dot vs w) (eqb·zero-suc p)
+    (tab-ext (length vs) (λ j. eqb (suc j) (suc p)) (λ j. eqb j p) (λ j l. eqb·suc-suc j p))
+    ∙ zero-⊕ (dot vs (tab (length vs) (λ j. eqb j p))) ∙ dot-one vs p (omega arith)
 
 pub dot-++ : (vs us : List ℕ) (w u : Word) → length w ≡ length vs → dot (vs ++ us) (w ++ u) ≡ dot vs w ⊕ dot us u
 unfolding dot

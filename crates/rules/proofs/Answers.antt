@@ -70,6 +70,11 @@ values-long : (n : ℕ) → 18 ≤ n → length (values n) ≡ n
 values-long zero h = absurd (omega arith)
 values-long (suc m) h = values-length m
 
+-- what is found are at most two of the word's own n places, and their values make up its checks, remainder and parity
+nearest-says : (n : ℕ) (w : Word) → Says (λ k. k ≤ 2) 0 (values n) (checks n w) (nearest n w)
+unfolding nearest
+nearest-says n w = within-says 2 (values n) (checks n w)
+
 changed-none : (w : Word) → changed [] w ≡ w
 unfolding isIn xor
 changed-none w = word-ext (length w) (changed [] w) w (changed-length [] w) refl (λ j h. changed-bit [] w j h ∙ Bool·not-not (bit w j))
@@ -112,8 +117,7 @@ module _ (n : ℕ) (h : 18 ≤ n) (b : n ≤ 256) (w : Word) (l : length w ≡ n
 
   found-or-not :
       ((e : Word) × Fit e × (nearest n w ≡ some (placesFrom 0 e))) ⊎ ((nearest n w ≡ none) × ((e : Word) → Fit e → ⊥))
-  unfolding nearest
-  found-or-not = go (nearest n w) refl (within-says 2 (values n) (checks n w))
+  found-or-not = go (nearest n w) refl (nearest-says n w)
     where
       go :
           (o : Option (List ℕ)) → nearest n w ≡ o → Says (λ k. k ≤ 2) 0 (values n) (checks n w) o

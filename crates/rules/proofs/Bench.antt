@@ -1,54 +1,28 @@
 -- Document 01, "Bench items (starred: to be shown)": all of them, as one table under one statement.
 -- Assumes nothing.
 use mathlib.Core.Path.{_≡_, refl}
-use mathlib.Core.Bool.{Bool, true, false, xor}
 use mathlib.Core.List.{List, [], _∷_, _++_, map}
-use Prim.Native.Nat.{ℕ, _+_}
+use Prim.Native.Nat.{ℕ}
 use lib.ListN.{replicate}
-use Rattle.algebra.specs.Xor.{_⊕_}
-use Rattle.algebra.specs.Tables.{tabFrom, tab, ones, sum, total}
-use Rattle.algebra.specs.Words.{bit, _⊻_}
-use Rattle.algebra.specs.Remainder.{shift, register, descend, binary, systematic}
-use Rattle.rules.specs.Field.{poly}
-use Rattle.rules.specs.Words.{
-  g,
-  remainder,
-  checks,
-  isCodeword,
-  encodeWord,
-  values,
-  exactly,
-  within,
-  nearest,
-  codeword,
-  onePlace,
-  twoPlaces,
-  beyond,
-  asAnswer,
-  answer,
-  isIn,
-  changed,
-  mend,
-}
-use Rattle.rules.specs.Frames.{row, turned, badRows, badColumns, isFrame, rowsFirst}
-use Rattle.rules.specs.Bits.{rowBytes, bitAt, wordOf, frameOf, packed, wordBytes, bytesOf, sparesSet}
-use Rattle.rules.specs.Passes.{clean, repaired, stuck, spent, passRows, passColumns, pass, differences, passesFrom, decoded}
+use Rattle.algebra.specs.Tables.{ones, total}
+use Rattle.rules.specs.Words.{codeword, onePlace, beyond}
+use Rattle.rules.specs.Frames.{row}
+use Rattle.rules.specs.Bits.{rowBytes, frameOf}
+use Rattle.rules.specs.Passes.{clean, repaired, stuck, spent}
 use Rattle.rules.specs.Numbers.{
   frameBytes,
   encodeNumber,
   encodeOutput,
   Decoded,
-  refused,
   ended,
-  decodeRefusal,
   decodeSaid,
   decodeOutput,
   WordSaid,
   answered,
-  wordRefusal,
   wordSaid,
   wordOutput,
 }
+use Rattle.rules.proofs.Computing.{computing}
 
 -- what is asked of an entry point; every lent output is full of nines
 pub data Asked : Type 0 where
@@ -132,5 +106,5 @@ abbrev pub Bench : Type 0
 Bench = map (λ item. got (item .0)) table ≡ map (λ item. item .1) table
 
 pub bench : Bench
-unfolding _⊕_ tabFrom tab ones sum bit _⊻_ xor shift register descend binary systematic poly g remainder checks isCodeword encodeWord values exactly within nearest asAnswer answer isIn changed mend row turned badRows badColumns isFrame rowsFirst bitAt wordOf frameOf packed wordBytes bytesOf sparesSet passRows passColumns pass differences passesFrom decoded encodeNumber encodeOutput decodeRefusal decodeSaid decodeOutput wordRefusal wordSaid wordOutput nines got table
+unfolding computing nines got table
 bench = refl

@@ -6,15 +6,16 @@ use mathlib.Core.List.{List, [], _∷_, _++_, map}
 use Prim.Native.Nat.{ℕ, zero, suc, _+_, _*_, _-_, _%_, _^_, _≤_, _<_}
 use native.Mathlib.Omega.{arith}
 use borrow.Author.Tests.{eqb-true, eq-eqb}
-use lib.Dec.{lit<}
+use lib.Dec.{eqb, lit<}
 use lib.ListN.{length, take, getD, length-append, length-map}
 use lib.Seq.{take-suc, take-length, take-at, length-take-le}
 use Rattle.algebra.specs.Xor.{_⊕_}
-use Rattle.algebra.specs.Tables.{num, ones}
+use Rattle.algebra.specs.Tables.{tab, num, ones}
 use Rattle.algebra.specs.Words.{Word, bit, _⊻_, kept, dot}
 use Rattle.algebra.specs.Remainder.{register, powersDown}
 use Rattle.algebra.proofs.XorLaws.{⊕-zero, zero-⊕}
-use Rattle.algebra.proofs.WordLaws.{dot-⊻, dot-++, ones-++, ⊻-length}
+use Rattle.algebra.proofs.TableLaws.{tab-length}
+use Rattle.algebra.proofs.WordLaws.{dot-one, dot-⊻, dot-++, ones-++, ⊻-length}
 use Rattle.algebra.proofs.ParityLaws.{parity-add, pairs, dot-parity}
 use Rattle.algebra.proofs.RemainderLaws.{register-start, powersDown-length}
 use Rattle.rules.specs.Field.{poly}
@@ -93,6 +94,15 @@ checks-dot (suc m) w h e =
     ap (checks (suc m)) (last-bit m w e) ∙ checks-split m u (bit w m) hu
     ∙ ap (λ x. 2 * x + (ones u + num (bit w m)) % 2) (register-front m u hu)
     ∙ sym (ap (dot (values (suc m))) (last-bit m w e) ∙ dot-values m u (bit w m) hu)
+
+-- the value of a place is the checks of the word whose only one stands there
+pub value-checks : (n p : ℕ) → p < n → getD (values n) p 0 ≡ checks n (tab n (λ j. eqb j p))
+value-checks zero p h = absurd (omega arith)
+value-checks (suc m) p h =
+    sym
+    (checks-dot (suc m) (tab (suc m) (λ j. eqb j p)) (omega arith) (tab-length (suc m) (λ j. eqb j p))
+    ∙ ap (λ l. dot (values (suc m)) (tab l (λ j. eqb j p))) (sym (values-length m))
+    ∙ dot-one (values (suc m)) p (omega (arith, values-length m)))
 
 -- ---- codewords
 

@@ -13,6 +13,7 @@ pub mod EncodeWordLaws
 pub mod ProductLaws
 pub mod OneOfLaws
 pub mod NumberLaws
+pub mod Computing
 -- The promises, each file opening with its statement
 pub mod FieldPromise
 pub mod Distance
@@ -22,5 +23,6 @@ pub mod RoundTrip
 pub mod Refusals
 pub mod RepairFrames
 pub mod Repair
+pub mod Determined
 pub mod Bench
 pub mod Limit

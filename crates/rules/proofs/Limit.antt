@@ -2,37 +2,18 @@
 -- Assumes nothing.
 use mathlib.Core.Path.{_≡_, refl, ap}
 use mathlib.Core.Logic.{_≢_}
-use mathlib.Core.Bool.{Bool, true, false, xor}
+use mathlib.Core.Bool.{true}
 use mathlib.Core.List.{List, [], _∷_, _++_}
-use Prim.Native.Nat.{ℕ, _+_}
+use Prim.Native.Nat.{ℕ}
 use native.Mathlib.Omega.{arith}
 use lib.ListN.{getD, replicate}
-use Rattle.algebra.specs.Xor.{_⊕_}
-use Rattle.algebra.specs.Tables.{tabFrom, tab, ones, sum}
-use Rattle.algebra.specs.Words.{bit, _⊻_}
-use Rattle.algebra.specs.Remainder.{shift, register, descend, binary, systematic}
-use Rattle.rules.specs.Field.{poly}
-use Rattle.rules.specs.Words.{
-  g,
-  remainder,
-  checks,
-  isCodeword,
-  encodeWord,
-  values,
-  exactly,
-  within,
-  nearest,
-  asAnswer,
-  answer,
-  isIn,
-  changed,
-  mend,
-}
-use Rattle.rules.specs.Frames.{row, turned, badRows, badColumns, isFrame, rowsFirst}
-use Rattle.rules.specs.Bits.{bitAt, wordOf, frameOf, packed, bytesOf, sparesSet}
-use Rattle.rules.specs.Passes.{repaired, stuck, passRows, passColumns, pass, differences, passesFrom, decoded}
-use Rattle.rules.specs.Numbers.{encodeNumber, encodeOutput, ended, decodeRefusal, decodeSaid, decodeOutput}
+use Rattle.algebra.specs.Words.{differ}
+use Rattle.rules.specs.Words.{isCodeword}
+use Rattle.rules.specs.Bits.{wordOf, frameOf}
+use Rattle.rules.specs.Passes.{repaired, stuck, differences}
+use Rattle.rules.specs.Numbers.{encodeNumber, encodeOutput, ended, decodeSaid, decodeOutput}
 use Rattle.rules.specs.Damage.{spoilt}
+use Rattle.rules.proofs.Computing.{computing}
 
 abbrev zeros : ℕ → List ℕ
 zeros m = replicate m 0
@@ -57,6 +38,9 @@ abbrev other : List ℕ
 other = six ++ zeros 20 ++ six ++ zeros 28 ++ six ++ six ++ zeros 4 ++ six ++ zeros 44 ++ six ++ zeros 4
 
 pub record Limit : Type 0 where
+  -- codewords that differ in just six places: no distance of 7
+  pub nearest : (isCodeword 31 (wordOf 31 six 0) ≡ true) × (isCodeword 31 (wordOf 31 (zeros 4) 0) ≡ true)
+  pub apart : differ (wordOf 31 six 0) (wordOf 31 (zeros 4) 0) ≡ 6
   -- a written frame
   pub encoded : encodeNumber 31 (zeros 28) (zeros 124) ≡ 0
   pub frame : encodeOutput 31 (zeros 28) (zeros 124) ≡ written
@@ -72,9 +56,11 @@ pub record Limit : Type 0 where
   pub left : decodeSaid 18 32 (0xE0 ∷ 0 ∷ 0 ∷ 0xE0 ∷ 0 ∷ 0 ∷ 0xE0 ∷ zeros 47) (zeros 54) ≡ ended stuck 2 0 3 3
 
 pub limit : Limit
-unfolding _⊕_ tabFrom tab ones sum bit _⊻_ xor shift register descend binary systematic poly g remainder checks isCodeword encodeWord values exactly within nearest asAnswer answer isIn changed mend row turned badRows badColumns isFrame rowsFirst bitAt wordOf frameOf packed bytesOf sparesSet passRows passColumns pass differences passesFrom decoded encodeNumber encodeOutput decodeRefusal decodeSaid decodeOutput spoilt
+unfolding computing
 limit =
     record {
+      nearest = (refl, refl);
+      apart = refl;
       encoded = refl;
       frame = refl;
       rows = refl;
