@@ -1,4 +1,5 @@
 -- Exclusive or, additive maps, registers
+pub mod Digits
 pub mod XorLaws
 pub mod LinearLaws
 pub mod RegisterLaws

@@ -12,15 +12,14 @@ use lib.Dec.{T, eqb, eqb→eq}
 use Rattle.algebra.specs.Xor.{_⊕_}
 use Rattle.algebra.specs.Register.{iter}
 use Rattle.algebra.specs.Linear.{Additive, lin}
+use Rattle.algebra.proofs.Digits.{digits-case}
 use Rattle.algebra.proofs.XorLaws.{⊕-zero, zero-⊕, ⊕-self, ⊕-swap, ⊕-half, ⊕-digit}
 
 -- digits scale a number additively
 pub digit-scale : (c x y : ℕ) → x < 2 → y < 2 → (x ⊕ y) * c ≡ x * c ⊕ y * c
-digit-scale c zero y hx hy = simp (zero-⊕, zero-mul)
-digit-scale c (suc zero) zero hx hy = simp (⊕-zero, zero-mul)
-digit-scale c (suc zero) (suc zero) hx hy = simp (⊕-self, zero-mul)
-digit-scale c (suc zero) (suc (suc y)) hx hy = absurd (omega arith)
-digit-scale c (suc (suc x)) y hx hy = absurd (omega arith)
+digit-scale c =
+    digits-case (λ x y. (x ⊕ y) * c ≡ x * c ⊕ y * c) (simp (zero-⊕, zero-mul)) (simp (zero-⊕, zero-mul)) (simp (⊕-zero, zero-mul))
+    (simp (⊕-self, zero-mul))
 
 -- a map given by its columns is additive, whatever the columns
 pub lin-additive : (cs : List ℕ) → Additive (lin cs)

@@ -5,26 +5,18 @@ use mathlib.Core.Bool.{Bool, true, false}
 use mathlib.Core.List.{List, [], _∷_, _++_, map}
 use Prim.Native.Nat.{ℕ, zero, suc, _+_, _*_, _/_, _%_, _≤_, _<_}
 use native.Mathlib.Omega.{arith}
-use lib.Dec.{eqb}
 use lib.ListN.{length}
 use Rattle.algebra.specs.Xor.{_⊕_}
 use Rattle.algebra.specs.Tables.{num, ones}
 use Rattle.algebra.specs.Words.{Word, kept, dot}
-use Rattle.algebra.specs.Remainder.{isOdd}
+use Rattle.algebra.proofs.Digits.{digits-case}
 use Rattle.algebra.proofs.XorLaws.{⊕-half, ⊕-digit, ⊕-zero, ⊕-lt, by-digit}
 
 pub parity-add : (m n : ℕ) → (m + n) % 2 ≡ m % 2 ⊕ n % 2
 unfolding _⊕_
-parity-add m n = (let e : (m + n) % 2 ≡ (m % 2 + n % 2) % 2 = omega arith in e) ∙ go (m % 2) (n % 2) (omega arith) (omega arith)
-  where
-    go : (p q : ℕ) → p < 2 → q < 2 → (p + q) % 2 ≡ p ⊕ q
-    go zero zero hp hq = refl
-    go zero (suc zero) hp hq = refl
-    go zero (suc (suc q)) hp hq = absurd (omega arith)
-    go (suc zero) zero hp hq = refl
-    go (suc zero) (suc zero) hp hq = refl
-    go (suc zero) (suc (suc q)) hp hq = absurd (omega arith)
-    go (suc (suc p)) q hp hq = absurd (omega arith)
+parity-add m n =
+    (let e : (m + n) % 2 ≡ (m % 2 + n % 2) % 2 = omega arith in e)
+    ∙ digits-case (λ p q. (p + q) % 2 ≡ p ⊕ q) refl refl refl refl (m % 2) (n % 2) (omega arith) (omega arith)
 
 -- halves and last digits apart
 pub pairs : (x y p q : ℕ) → p < 2 → q < 2 → (2 * x + p) ⊕ (2 * y + q) ≡ 2 * (x ⊕ y) + (p ⊕ q)

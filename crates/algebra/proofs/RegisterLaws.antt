@@ -10,6 +10,7 @@ use lib.Dec.{T, lit<}
 use Rattle.algebra.specs.Xor.{_⊕_}
 use Rattle.algebra.specs.Register.{iter, turn}
 use Rattle.algebra.specs.Linear.{Additive}
+use Rattle.algebra.proofs.Digits.{digit-case}
 use Rattle.algebra.proofs.XorLaws.{⊕-zero, zero-⊕, ⊕-swap, ⊕-half, ⊕-digit, ⊕-div, ⊕-mod, ⊕-lt, by-digit}
 use Rattle.algebra.proofs.LinearLaws.{digit-scale, additive-zero, additive-compose, additive-iter, agree, agrees, agrees→}
 
@@ -39,9 +40,7 @@ turn-additive k c a b =
     ∙ ⊕-swap (2 * a % 2 ^ suc k) (2 * b % 2 ^ suc k) (a / 2 ^ k % 2 * c) (b / 2 ^ k % 2 * c)
 
 digit-lt : (d : ℕ) {c n : ℕ} → d < 2 → c < n → d * c < n
-digit-lt zero {c} {n} h hc = rw zero-mul (omega arith)
-digit-lt (suc zero) {c} {n} h hc = rw one-mul hc
-digit-lt (suc (suc d)) h hc = absurd (omega arith)
+digit-lt d {c} {n} h hc = digit-case (λ d. d * c < n) (rw zero-mul (omega arith)) (rw one-mul hc) d h
 
 pub turn-lt : (k : ℕ) {c : ℕ} → c < 2 ^ suc k → (x : ℕ) → turn k c x < 2 ^ suc k
 unfolding turn
@@ -49,9 +48,7 @@ turn-lt k h x = ⊕-lt (suc k) (mod-lt (2 * x) (pow-pos (suc k))) (digit-lt (x /
 
 -- an odd number keeps the digit that scales it
 digit-odd : (d c : ℕ) → c % 2 ≡ 1 → d < 2 → d * c % 2 ≡ d
-digit-odd zero c h hd = rw zero-mul
-digit-odd (suc zero) c h hd = rw one-mul h
-digit-odd (suc (suc d)) c h hd = absurd (omega arith)
+digit-odd d c h hd = digit-case (λ d. d * c % 2 ≡ d) (rw zero-mul) (rw one-mul h) d hd
 
 -- the shift drops the top digit and nothing else
 double-mod : (k x : ℕ) → 2 * x % 2 ^ suc k ≡ x % 2 ^ k * 2

@@ -9,7 +9,6 @@ use native.Mathlib.Decide.{decLt}
 use native.Mathlib.Omega.{arith}
 use borrow.Author.Tests.{lt-ltb, le-ltb}
 use lib.Bits.{bitXor, xor-shifted}
-use lib.Dec.{eqb}
 use lib.Pow.{pow-pos, high, low, mod-pow-add}
 use lib.ListN.{length, replicate, length-replicate}
 use Rattle.algebra.specs.Xor.{_⊕_}
@@ -17,19 +16,16 @@ use Rattle.algebra.specs.Register.{iter, turn}
 use Rattle.algebra.specs.Tables.{num, ones}
 use Rattle.algebra.specs.Words.{Word, kept, dot}
 use Rattle.algebra.specs.Remainder.{shift, register, descend, powersDown, isOdd, binary, systematic}
+use Rattle.algebra.proofs.Digits.{num-le, num-odd}
 use Rattle.algebra.proofs.XorLaws.{⊕-self, ⊕-assoc, ⊕-zero, zero-⊕, ⊕-lt, xors}
 use Rattle.algebra.proofs.WordLaws.{dot-none, ones-++}
 use Rattle.algebra.proofs.LinearLaws.{⊕-top, additive-iter}
 use Rattle.algebra.proofs.RegisterLaws.{turn-additive, turn-lt, iter-suc, iter-zero, one-lt}
 
-num-lt : (b : Bool) → num b < 2
-num-lt true = omega arith
-num-lt false = omega arith
-
 -- a digit beside an even number
 pub beside : (x : ℕ) (b : Bool) → 2 * x ⊕ num b ≡ 2 * x + num b
 unfolding _⊕_
-beside x b = rw mul-comm (xor-shifted x 1 (num b) (num-lt b))
+beside x b = rw mul-comm (xor-shifted x 1 (num b) (omega (arith, num-le b)))
 
 -- ---- room for one more digit
 
@@ -40,23 +36,15 @@ room-step r m =
 
 room-lt : (r m : ℕ) (b : Bool) {n : ℕ} → (r + 1) * 2 ^ suc m ≤ n → 2 * r + num b < n
 room-lt r m b h =
-    omega (arith, num-lt b, room-step r m, mul-le-mul-left (2 * r + 2) (pow-pos m), mul-one (2 * r + 2))
+    omega (arith, num-le b, room-step r m, mul-le-mul-left (2 * r + 2) (pow-pos m), mul-one (2 * r + 2))
 
 room-next : (r m : ℕ) (b : Bool) {n : ℕ} → (r + 1) * 2 ^ suc m ≤ n → (2 * r + num b + 1) * 2 ^ m ≤ n
 room-next r m b h =
-    let l : 2 * r + num b + 1 ≤ 2 * r + 2 = omega (arith, num-lt b) in
+    let l : 2 * r + num b + 1 ≤ 2 * r + 2 = omega (arith, num-le b) in
     omega (arith, room-step r m, mul-le-mul-right (2 ^ m) l)
 
 whole : (m : ℕ) → (0 + 1) * 2 ^ m ≤ 2 ^ m
 whole m = omega (arith, one-mul (2 ^ m))
-
-num-odd : (x : ℕ) → num (isOdd x) ≡ x % 2
-num-odd x = go (x % 2) (omega arith)
-  where
-    go : (d : ℕ) → d < 2 → num (eqb d 1) ≡ d
-    go zero h = refl
-    go (suc zero) h = refl
-    go (suc (suc d)) h = absurd (omega arith)
 
 digits-join : (r m x : ℕ) → (2 * r + num (isOdd (x / 2 ^ m))) * 2 ^ m + x % 2 ^ m ≡ r * 2 ^ suc m + x % 2 ^ suc m
 digits-join r m x =
@@ -95,11 +83,11 @@ module _ (k c : ℕ) (small : c < 2 ^ suc k) where
           rw (lt-ltb (2 * r + num b) (2 ^ suc k) l, e₁, e₂, zero-mul, ⊕-zero) (sym (beside r b))
       go (no l) =
           let y : ℕ = r - 2 ^ k in
-          let q : r ≡ 1 * 2 ^ k + y = omega (arith, pow-suc 2 k, num-lt b) in
+          let q : r ≡ 1 * 2 ^ k + y = omega (arith, pow-suc 2 k, num-le b) in
           let q₂ : 2 * r ≡ 1 * 2 ^ suc k + 2 * y = omega (arith, pow-suc 2 k) in
           let hy : y < 2 ^ k = omega (arith, pow-suc 2 k) in
           let hy₂ : 2 * y < 2 ^ suc k = omega (arith, pow-suc 2 k) in
-          let hy₃ : 2 * y + num b < 2 ^ suc k = omega (arith, pow-suc 2 k, num-lt b) in
+          let hy₃ : 2 * y + num b < 2 ^ suc k = omega (arith, pow-suc 2 k, num-le b) in
           let e₁ : 2 * r % 2 ^ suc k ≡ 2 * y = ap (λ m. m % 2 ^ suc k) q₂ ∙ low 1 (suc k) hy₂ in
           let e₂ : r / 2 ^ k ≡ 1 = ap (λ m. m / 2 ^ k) q ∙ high 1 k hy in
           let e₃ : 2 * r + num b ≡ 2 ^ suc k ⊕ (2 * y ⊕ num b) =
@@ -109,7 +97,7 @@ module _ (k c : ℕ) (small : c < 2 ^ suc k) where
 
   pub shift-lt : (r : ℕ) (b : Bool) → r < 2 ^ suc k → shift (suc k) (2 ^ suc k + c) r b < 2 ^ suc k
   shift-lt r b h =
-      rw shift-turn (⊕-lt (suc k) (turn-lt k small r) (omega (arith, num-lt b, pow-suc 2 k, pow-pos k)))
+      rw shift-turn (⊕-lt (suc k) (turn-lt k small r) (omega (arith, num-le b, pow-suc 2 k, pow-pos k)))
 
   pub register-lt : (r : ℕ) (w : Word) → r < 2 ^ suc k → register (suc k) (2 ^ suc k + c) r w < 2 ^ suc k
   unfolding register

@@ -1,14 +1,12 @@
 -- ⊕ is a group of exponent two on all numbers, and goes by digits.
 -- Assumes nothing.
-use mathlib.Core.Path.{_≡_, refl, sym, ap, ap₂, _∙_}
-use mathlib.Core.Logic.{_≢_}
-use Prim.Native.Nat.{ℕ, zero, suc, _+_, _*_, _-_, _/_, _%_, _^_, _≤_, _<_}
-use native.Mathlib.Nat.{mod-lt, not-suc-le-zero}
+use mathlib.Core.Path.{_≡_, refl, sym, ap, _∙_}
+use Prim.Native.Nat.{ℕ, _/_, _%_, _^_, _<_}
 use native.Mathlib.Omega.{arith}
-use lib.Bits.{bitXor, differ, xor-step, xor-comm, xor-self, xor-zero-l, xor-zero-r, xor-lt, xor-shr, xor-mod}
+use lib.Bits.{bitXor, xor-comm, xor-self, xor-zero-l, xor-zero-r, xor-lt, xor-shr, xor-mod}
 use lib.Arith.{bin-ind}
-use lib.Dec.{lit<}
 use Rattle.algebra.specs.Xor.{_⊕_}
+use Rattle.algebra.proofs.Digits.{digit-case, digits-case}
 
 pub ⊕-comm : (a b : ℕ) → a ⊕ b ≡ b ⊕ a
 unfolding _⊕_
@@ -50,13 +48,10 @@ by-digit h d = omega arith
 
 digit-assoc : (x y z : ℕ) → x < 2 → y < 2 → z < 2 → x ⊕ y ⊕ z ≡ x ⊕ (y ⊕ z)
 unfolding _⊕_
-digit-assoc zero y z hx hy hz = ap (λ (m : ℕ). bitXor m z) (xor-zero-l y) ∙ sym (xor-zero-l (bitXor y z))
-digit-assoc (suc zero) zero z hx hy hz = ap (λ (m : ℕ). bitXor 1 m) (sym (xor-zero-l z))
-digit-assoc (suc zero) (suc zero) zero hx hy hz = refl
-digit-assoc (suc zero) (suc zero) (suc zero) hx hy hz = refl
-digit-assoc (suc zero) (suc zero) (suc (suc z)) hx hy hz = absurd (omega arith)
-digit-assoc (suc zero) (suc (suc y)) z hx hy hz = absurd (omega arith)
-digit-assoc (suc (suc x)) y z hx hy hz = absurd (omega arith)
+digit-assoc x y z hx hy hz =
+    digit-case (λ z. x ⊕ y ⊕ z ≡ x ⊕ (y ⊕ z))
+    (digits-case (λ x y. x ⊕ y ⊕ 0 ≡ x ⊕ (y ⊕ 0)) refl refl refl refl x y hx hy)
+    (digits-case (λ x y. x ⊕ y ⊕ 1 ≡ x ⊕ (y ⊕ 1)) refl refl refl refl x y hx hy) z hz
 
 pub ⊕-assoc : (a b c : ℕ) → a ⊕ b ⊕ c ≡ a ⊕ (b ⊕ c)
 ⊕-assoc a = bin-ind (λ (a : ℕ). (b c : ℕ) → a ⊕ b ⊕ c ≡ a ⊕ (b ⊕ c)) base step a

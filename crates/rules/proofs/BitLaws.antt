@@ -14,25 +14,14 @@ use borrow.Author.Tests.{eq-eqb, ne-eqb}
 use Rattle.algebra.specs.Tables.{num}
 use Rattle.algebra.specs.Words.{Word, bit}
 use Rattle.algebra.specs.Remainder.{isOdd}
+use Rattle.algebra.proofs.Digits.{num-le, num-odd}
 use Rattle.rules.specs.Bits.{bitAt, packed, byteOf}
 
 -- ---- the last digit, and the others
 
-pub num-le : (b : Bool) → num b ≤ 1
-num-le true = omega arith
-num-le false = omega arith
-
 pub odd-last : (x : ℕ) (b : Bool) → isOdd (x * 2 + num b) ≡ b
 odd-last x true = eq-eqb ((x * 2 + 1) % 2) 1 (omega arith)
 odd-last x false = ne-eqb ((x * 2 + 0) % 2) 1 (λ e. omega arith)
-
-pub num-odd : (x : ℕ) → num (isOdd x) ≡ x % 2
-num-odd x = go (x % 2) (omega arith)
-  where
-    go : (r : ℕ) → r < 2 → num (eqb r 1) ≡ r
-    go zero h = refl
-    go (suc zero) h = refl
-    go (suc (suc r)) h = absurd (omega arith)
 
 -- digit e + 1 of a number is digit e of its half
 pub half-digit : (x e : ℕ) → x / 2 ^ suc e ≡ x / 2 / 2 ^ e

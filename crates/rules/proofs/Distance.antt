@@ -15,6 +15,7 @@ use Rattle.algebra.specs.Tables.{num, ones}
 use Rattle.algebra.specs.Words.{Word, bit, _⊻_, differ, dot}
 use Rattle.algebra.specs.Remainder.{register, powersDown}
 use Rattle.algebra.specs.Field256.{powers, logs}
+use Rattle.algebra.proofs.Digits.{num-le}
 use Rattle.algebra.proofs.XorLaws.{zero-⊕}
 use Rattle.algebra.proofs.WordLaws.{ones-++, ⊻-length, differ-zero}
 use Rattle.algebra.proofs.RemainderLaws.{register-start, register-++, register-none, ones-none}
@@ -50,11 +51,7 @@ few-places (suc m) w h b l e o =
     sym (checks-split m u (bit w m) hu) ∙ ap (checks (suc m)) (sym (last-bit m w l)) ∙ e in
     let t : ones w ≡ ones u + num (bit w m) = ap ones (last-bit m w l) ∙ ones-last u (bit w m) in
     let z : ones u ≡ 0 = few-front u (omega arith) (omega arith) (omega arith) in
-    omega (arith, num-small (bit w m))
-  where
-    num-small : (b : Bool) → num b ≤ 1
-    num-small true = omega arith
-    num-small false = omega arith
+    omega (arith, num-le (bit w m))
 
 pub distance : Distance
 distance n h b w u cw cu apart = go (decLt 5 (differ w u))

@@ -11,12 +11,12 @@ use Rattle.algebra.specs.Xor.{_⊕_}
 use Rattle.algebra.specs.Tables.{num, ones}
 use Rattle.algebra.specs.Words.{Word, bit, _⊻_}
 use Rattle.algebra.specs.Remainder.{register, isOdd, binary, systematic}
+use Rattle.algebra.proofs.Digits.{num-odd, num-le}
 use Rattle.algebra.proofs.XorLaws.{⊕-self}
 use Rattle.algebra.proofs.TableLaws.{tab-is, zero-count, count-zero}
 use Rattle.algebra.proofs.WordLaws.{xor-self, ⊻-length, ⊻-bit, differ-zero, ones-++}
 use Rattle.algebra.proofs.RemainderLaws.{binary-length, systematic-divisible, divisible-zero}
 use Rattle.rules.specs.Words.{g, dataBits, checks, isCodeword, encodeWord}
-use Rattle.rules.proofs.BitLaws.{num-odd, num-le}
 use Rattle.rules.proofs.CheckLaws.{low, low-small, g-low, last-bit, checks-split, codeword-checks, checks-codeword, checks-⊻}
 
 -- ---- words without ones

@@ -12,6 +12,7 @@ use Rattle.algebra.specs.Xor.{_⊕_}
 use Rattle.algebra.specs.Tables.{tab, ones}
 use Rattle.algebra.specs.Words.{Word, bit, _⊻_, kept, dot}
 use Rattle.algebra.specs.Remainder.{isOdd}
+use Rattle.algebra.proofs.Digits.{digits-case}
 use Rattle.algebra.proofs.XorLaws.{zero-⊕, ⊕-div, ⊕-digit, ⊕-self}
 use Rattle.algebra.proofs.TableLaws.{tab-length, tab-ext, zero-count}
 use Rattle.algebra.proofs.WordLaws.{⊻-length, ⊻-bit, dot-none}
@@ -34,16 +35,9 @@ digit-zero b = ap isOdd (zero-div (2 ^ b))
 
 odd-⊕ : (x y : ℕ) → isOdd (x ⊕ y) ≡ xor (isOdd x) (isOdd y)
 unfolding _⊕_ xor
-odd-⊕ x y = ap (λ m. eqb m 1) (⊕-digit x y) ∙ go (x % 2) (y % 2) (omega arith) (omega arith)
-  where
-    go : (p q : ℕ) → p < 2 → q < 2 → eqb (p ⊕ q) 1 ≡ xor (eqb p 1) (eqb q 1)
-    go zero zero hp hq = refl
-    go zero (suc zero) hp hq = refl
-    go zero (suc (suc q)) hp hq = absurd (omega arith)
-    go (suc zero) zero hp hq = refl
-    go (suc zero) (suc zero) hp hq = refl
-    go (suc zero) (suc (suc q)) hp hq = absurd (omega arith)
-    go (suc (suc p)) q hp hq = absurd (omega arith)
+odd-⊕ x y =
+    ap (λ m. eqb m 1) (⊕-digit x y)
+    ∙ digits-case (λ p q. eqb (p ⊕ q) 1 ≡ xor (eqb p 1) (eqb q 1)) refl refl refl refl (x % 2) (y % 2) (omega arith) (omega arith)
 
 digit-⊕ : (b x y : ℕ) → digit b (x ⊕ y) ≡ xor (digit b x) (digit b y)
 unfolding digit

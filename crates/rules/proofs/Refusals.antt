@@ -16,7 +16,7 @@ use Rattle.rules.specs.Words.{dataBits, Answer, codeword, onePlace, twoP
 use Rattle.rules.specs.Frames.{Frame, isFrame, corner, rowsFirst}
 use Rattle.rules.specs.Bits.{rowBytes, wordOf, frameOf, wordBytes, bytesOf, sparesSet}
 use Rattle.rules.specs.Passes.{Ending, clean, repaired, stuck, spent, Outcome, decoded}
-use Rattle.rules.specs.Numbers.{pick, outside, notLong, notAllowed, dataBytes, frameBytes, encodeNumber, encodeOutput, readNumber, readOutput, refused, told, handedOut, decodeRefusal, decodeSaid, decodeOutput, endingNumber, number, wordRefused, answered, wordRefusal, wordSaid, wordNumber, wordOutput, Checks, first, encodeChecks, readChecks, decodeChecks, wordChecks, rowRefused, rowPart}
+use Rattle.rules.specs.Numbers.{pick, outside, notLong, notAllowed, dataBytes, frameBytes, encodeNumber, encodeOutput, readNumber, readOutput, refused, told, handedOut, decodeRefusal, decodeSaid, decodeOutput, endingNumber, number, wordRefused, answered, wordRefusal, wordSaid, wordNumber, wordOutput, CheckList, first, encodeChecks, readChecks, decodeChecks, wordChecks, rowRefused, rowPart}
 use Rattle.rules.proofs.PackLaws.{bytesOf-length, wordBytes-length}
 use Rattle.rules.proofs.NumberLaws.{range-test, equal-test, checked-in, last-in, encode-accepts, read-accepts, decode-accepts, word-accepts, at-zero, at-other, at-either}
 use Rattle.rules.proofs.OneOfLaws.{OneOf, one-of-cons, one-of-back, one-of-front, allIn, one-of-range}
@@ -41,11 +41,11 @@ abbrev pub part : ℕ → List ℕ → ℕ → List ℕ
 part n input i = take (rowBytes n) (drop (i * rowBytes n) input)
 
 -- the numbers of some checks
-abbrev pub numbers : Checks → List ℕ
+abbrev pub numbers : CheckList → List ℕ
 numbers checks = map (λ check. check .1) checks
 
 -- r is the number of the first check that applies, or 0 where none does
-abbrev pub Given : Checks → ℕ → Type 0
+abbrev pub Given : CheckList → ℕ → Type 0
 Given [] r = r ≡ 0
 Given (check ∷ later) r = ((check .0 ≡ true) × (r ≡ check .1)) ⊎ ((check .0 ≡ false) × Given later r)
 
@@ -77,7 +77,7 @@ pub record Refuses : Type 0 where
       × (numbers (readChecks n input output) ≡ 1 ∷ 2 ∷ 3 ∷ 6 ∷ [])
       × (numbers (decodeChecks n allowance input output) ≡ 1 ∷ 2 ∷ 3 ∷ 4 ∷ [])
       × (numbers (wordChecks n input output) ≡ 1 ∷ 2 ∷ 3 ∷ [])
-  pub applies : (checks : Checks) → Given checks (first checks)
+  pub applies : (checks : CheckList) → Given checks (first checks)
 
 -- ---- the table, from the number of the refusal and that of the ending
 
@@ -264,7 +264,7 @@ row-bad n input i k = go (rowRefused n input i) refl
 
 -- ---- the order of the checks
 
-first-given : (checks : Checks) → Given checks (first checks)
+first-given : (checks : CheckList) → Given checks (first checks)
 first-given [] = refl
 first-given (check ∷ later) = go (check .0) refl (first-given later)
   where

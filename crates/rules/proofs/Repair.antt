@@ -26,7 +26,7 @@ use Rattle.rules.specs.Numbers.{
   decodeOutput,
   endingNumber,
   number,
-  passesOf,
+  figuresOf,
 }
 use Rattle.rules.specs.Damage.{spoilt}
 use Rattle.rules.proofs.Shape.{word-ext, frameOf-square, frameOf-row, wordOf-length, wordOf-bit}
@@ -53,7 +53,7 @@ Spoiled n written received = (length received ≡ frameBytes n) × (spoilt 2 n (
 pub record Back (n allowance : ℕ) (written received output : List ℕ) : Type 0 where
   pub zero : number (decodeSaid n allowance received output) ≡ 0
   pub bytes : decodeOutput n allowance received output ≡ written
-  pub few : passesOf (decodeSaid n allowance received output) ≤ 2
+  pub few : figuresOf (decodeSaid n allowance received output) .passes ≤ 2
 
 -- all code bits are the same
 abbrev pub Agree : ℕ → List ℕ → List ℕ → Type 0
@@ -146,7 +146,7 @@ back-here n a written received output w s lo hi lent =
     record {
       zero = ap number said ∙ e;
       bytes = at-zero r (handedOut n received o) output z ∙ handed n received o e ∙ ap (bytesOf n) (b .frame) ∙ sym (is-bytes n written w);
-      few = rw (ap passesOf said) (b .few);
+      few = rw (ap (λ d. figuresOf d .passes) said) (b .few);
     }
 
 apart-here :

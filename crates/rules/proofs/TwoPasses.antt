@@ -13,6 +13,7 @@ use lib.Dec.{leb, eqb, eqb·zero-suc, eqb·suc-suc}
 use lib.ListN.{length}
 use Rattle.algebra.specs.Tables.{tab, num, ones, count, total}
 use Rattle.algebra.specs.Words.{Word, bit, _⊻_, differ}
+use Rattle.algebra.proofs.Digits.{num-le}
 use Rattle.algebra.proofs.TableLaws.{tab-zero, tab-suc, tab-length, tab-at, tab-is, count-mono, count-ext, count-total, zero-count, total-mono, total-add}
 use Rattle.algebra.proofs.WordLaws.{xor-self, differ-self}
 use Rattle.rules.specs.Words.{isIn}
@@ -29,10 +30,6 @@ differ-tab (suc n) p q =
     ap₂ differ (tab-suc n p) (tab-suc n q)
     ∙ ap (λ m. num (xor (p 0) (q 0)) + m) (differ-tab n (λ i. p (suc i)) (λ i. q (suc i)))
     ∙ ap ones (sym (tab-suc n (λ i. xor (p i) (q i))))
-
-num-le : (b : Bool) → num b ≤ 1
-num-le true = omega arith
-num-le false = omega arith
 
 -- every row mended
 unfoldable pub rowsMended : ℕ → (Word → Word) → Frame → Frame

@@ -33,22 +33,22 @@ abbrev pub dataBytes : ℕ → ℕ
 dataBytes n = squareBytes (dataBits n)
 
 -- what a check tests, and the number that it gives
-abbrev pub Checks : Type 0
-Checks = List (Bool × ℕ)
+abbrev pub CheckList : Type 0
+CheckList = List (Bool × ℕ)
 
 -- "Checks go in order of number; the first that applies is given, and none is given otherwise."
-abbrev pub first : Checks → ℕ
+abbrev pub first : CheckList → ℕ
 first [] = 0
 first (check ∷ later) = pick (check .0) (check .1) (first later)
 
 -- "input length is not exactly that of n", "output length is not exact"
-abbrev pub sizeChecks : ℕ → List ℕ → ℕ → List ℕ → ℕ → Checks → Checks
+abbrev pub sizeChecks : ℕ → List ℕ → ℕ → List ℕ → ℕ → CheckList → CheckList
 sizeChecks n input takes output gives later = (outside n, 1) ∷ (notLong input takes, 2) ∷ (notLong output gives, 3) ∷ later
 
 -- ---- Encoding: the number, and the output
 
 -- "data has a spare bit set (encoding)"
-abbrev pub encodeChecks : ℕ → List ℕ → List ℕ → Checks
+abbrev pub encodeChecks : ℕ → List ℕ → List ℕ → CheckList
 encodeChecks n input output =
     sizeChecks n input (dataBytes n) output (frameBytes n) ((not (eqb (sparesSet (dataBits n) input) 0), 5) ∷ [])
 
@@ -62,7 +62,7 @@ encodeOutput n input output =
 -- ---- Reading data: the number, and the output
 
 -- "not a frame of codewords, code bits only (reading data)"
-abbrev pub readChecks : ℕ → List ℕ → List ℕ → Checks
+abbrev pub readChecks : ℕ → List ℕ → List ℕ → CheckList
 readChecks n input output =
     sizeChecks n input (frameBytes n) output (dataBytes n) ((not (isFrame n (frameOf n input)), 6) ∷ [])
 
@@ -80,7 +80,7 @@ pub data Decoded : Type 0 where
   -- passes, flips, rows, columns
   ended : Ending → ℕ → ℕ → ℕ → ℕ → Decoded
 
-abbrev pub decodeChecks : ℕ → ℕ → List ℕ → List ℕ → Checks
+abbrev pub decodeChecks : ℕ → ℕ → List ℕ → List ℕ → CheckList
 decodeChecks n allowance input output =
     sizeChecks n input (frameBytes n) output (frameBytes n) ((notAllowed allowance, 4) ∷ [])
 
@@ -104,33 +104,28 @@ unfoldable pub decodeOutput : ℕ → ℕ → List ℕ → List ℕ → List ℕ
 decodeOutput n allowance input output =
     pick (eqb (decodeRefusal n allowance input output) 0) (handedOut n input (decoded n allowance (frameOf n input))) output
 
--- document 01's number and values for each case: "Passes and flips stand for 0, 7 and 8; rows and columns for 7 and 8; all else
--- is zero."
 abbrev pub endingNumber : Ending → ℕ
 endingNumber clean = 0
 endingNumber repaired = 0
 endingNumber stuck = 7
 endingNumber spent = 8
 
+-- document 01's number and values
+pub record Figures : Type 0 where
+  pub number : ℕ
+  pub passes : ℕ
+  pub flips : ℕ
+  pub rows : ℕ
+  pub columns : ℕ
+
+-- "Passes and flips stand for 0, 7 and 8; rows and columns for 7 and 8; all else is zero."
+abbrev pub figuresOf : Decoded → Figures
+figuresOf (refused r) = record { number = r; passes = 0; flips = 0; rows = 0; columns = 0 }
+figuresOf (ended e passes flips rows columns) =
+    record { number = endingNumber e; passes = passes; flips = flips; rows = rows; columns = columns }
+
 abbrev pub number : Decoded → ℕ
-number (refused r) = r
-number (ended e passes flips rows columns) = endingNumber e
-
-abbrev pub passesOf : Decoded → ℕ
-passesOf (refused r) = 0
-passesOf (ended e passes flips rows columns) = passes
-
-abbrev pub flipsOf : Decoded → ℕ
-flipsOf (refused r) = 0
-flipsOf (ended e passes flips rows columns) = flips
-
-abbrev pub rowsOf : Decoded → ℕ
-rowsOf (refused r) = 0
-rowsOf (ended e passes flips rows columns) = rows
-
-abbrev pub columnsOf : Decoded → ℕ
-columnsOf (refused r) = 0
-columnsOf (ended e passes flips rows columns) = columns
+number d = figuresOf d .number
 
 -- ---- A single word
 
@@ -138,7 +133,7 @@ pub data WordSaid : Type 0 where
   wordRefused : ℕ → WordSaid
   answered : Answer → WordSaid
 
-abbrev pub wordChecks : ℕ → List ℕ → List ℕ → Checks
+abbrev pub wordChecks : ℕ → List ℕ → List ℕ → CheckList
 wordChecks n input output = sizeChecks n input (rowBytes n) output (rowBytes n) []
 
 unfoldable pub wordRefusal : ℕ → List ℕ → List ℕ → ℕ
