@@ -1,16 +1,15 @@
 -- The powers at few ones of a word never ⊕ to zero: the bound of a code with t odd power sums, over the register, the field and t.
 -- Assumes nothing.
 use mathlib.Core.Path.{_≡_, refl, sym, ap, ap₂, _∙_}
-use mathlib.Core.Logic.{_≢_}
-use mathlib.Core.Bool.{Bool, true, false}
+use mathlib.Core.Bool.{true, false}
 use mathlib.Core.List.{List, [], _∷_}
-use Prim.Native.Nat.{ℕ, zero, suc, _+_, _*_, _-_, _^_, _≤_, _<_}
+use Prim.Native.Nat.{ℕ, suc, _+_, _*_, _-_, _^_, _≤_, _<_}
 use native.Mathlib.Omega.{arith}
 use lib.ListN.{length}
 use Rattle.algebra.specs.Xor.{_⊕_}
 use Rattle.algebra.specs.Register.{iter, turn}
 use Rattle.algebra.specs.Linear.{Additive}
-use Rattle.algebra.specs.Tables.{num, ones}
+use Rattle.algebra.specs.Tables.{ones}
 use Rattle.algebra.specs.Words.{Word, dot}
 use Rattle.algebra.specs.Remainder.{powersDown, descend}
 use Rattle.algebra.specs.Sums.{AllN, Different, xsum}

@@ -2,15 +2,15 @@
 -- Assumes nothing.
 use mathlib.Core.Path.{_≡_, refl, sym, ap, ap₂, _∙_}
 use mathlib.Core.Bool.{Bool, true, false}
-use mathlib.Core.List.{List, [], _∷_, _++_, map}
-use Prim.Native.Nat.{ℕ, zero, suc, _+_, _*_, _/_, _%_, _≤_, _<_}
+use mathlib.Core.List.{List, [], _∷_, map}
+use Prim.Native.Nat.{ℕ, _+_, _*_, _/_, _%_, _<_}
 use native.Mathlib.Omega.{arith}
 use lib.ListN.{length}
 use Rattle.algebra.specs.Xor.{_⊕_}
 use Rattle.algebra.specs.Tables.{num, ones}
 use Rattle.algebra.specs.Words.{Word, kept, dot}
 use Rattle.algebra.proofs.Digits.{digits-case}
-use Rattle.algebra.proofs.XorLaws.{⊕-half, ⊕-digit, ⊕-zero, ⊕-lt, by-digit}
+use Rattle.algebra.proofs.XorLaws.{⊕-half, ⊕-digit, ⊕-lt, by-digit}
 
 pub parity-add : (m n : ℕ) → (m + n) % 2 ≡ m % 2 ⊕ n % 2
 unfolding _⊕_

@@ -4,11 +4,11 @@ use mathlib.Core.Path.{_≡_, refl, sym, ap, ap₂, _∙_}
 use mathlib.Core.Bool.{Bool, true, false, cond}
 use mathlib.Core.List.{List, [], _∷_, _++_}
 use Prim.Native.Nat.{ℕ, zero, suc, _+_, _*_, _-_, _/_, _%_, _^_, _≤_, _<_}
-use native.Mathlib.Nat.{pow-suc, mul-comm, mul-assoc, mul-left-comm, add-mul, add-comm, zero-add, zero-mul, one-mul, mul-one, mul-le-mul-left, mul-le-mul-right, mod-eq-of-lt, div-eq-of-lt}
+use native.Mathlib.Nat.{pow-suc, mul-comm, mul-assoc, mul-left-comm, add-mul, zero-add, zero-mul, one-mul, mul-one, mul-le-mul-left, mul-le-mul-right, mod-eq-of-lt, div-eq-of-lt}
 use native.Mathlib.Decide.{decLt}
 use native.Mathlib.Omega.{arith}
 use borrow.Author.Tests.{lt-ltb, le-ltb}
-use lib.Bits.{bitXor, xor-shifted}
+use lib.Bits.{xor-shifted}
 use lib.Pow.{pow-pos, high, low, mod-pow-add}
 use lib.ListN.{length, replicate, length-replicate}
 use Rattle.algebra.specs.Xor.{_⊕_}

@@ -3,14 +3,14 @@
 use mathlib.Core.Path.{_≡_, refl, sym, ap, ap₂, _∙_}
 use mathlib.Core.Bool.{Bool, true, false, xor}
 use mathlib.Core.List.{List, [], _∷_, _++_}
-use Prim.Native.Nat.{ℕ, zero, suc, _+_, _*_, _%_, _≤_, _<_}
+use Prim.Native.Nat.{ℕ, zero, suc, _+_, _≤_, _<_}
 use native.Mathlib.Omega.{arith}
 use lib.Dec.{eqb, eqb·zero-suc, eqb·suc-zero, eqb·suc-suc}
 use lib.ListN.{length, getD}
 use Rattle.algebra.specs.Xor.{_⊕_}
 use Rattle.algebra.specs.Tables.{tab, num, ones}
 use Rattle.algebra.specs.Words.{Word, bit, _⊻_, differ, kept, dot}
-use Rattle.algebra.proofs.XorLaws.{⊕-swap, ⊕-self, ⊕-zero, zero-⊕, ⊕-assoc, xors}
+use Rattle.algebra.proofs.XorLaws.{⊕-swap, ⊕-self, ⊕-zero, zero-⊕, ⊕-assoc}
 use Rattle.algebra.proofs.TableLaws.{num-zero, tab-suc, tab-ext, zero-count}
 
 -- ---- xor of two bits

@@ -3,7 +3,7 @@
 use mathlib.Core.Path.{_≡_, refl, sym, ap, _∙_}
 use Prim.Native.Nat.{ℕ, _/_, _%_, _^_, _<_}
 use native.Mathlib.Omega.{arith}
-use lib.Bits.{bitXor, xor-comm, xor-self, xor-zero-l, xor-zero-r, xor-lt, xor-shr, xor-mod}
+use lib.Bits.{xor-comm, xor-self, xor-zero-l, xor-zero-r, xor-lt, xor-shr, xor-mod}
 use lib.Arith.{bin-ind}
 use Rattle.algebra.specs.Xor.{_⊕_}
 use Rattle.algebra.proofs.Digits.{digit-case, digits-case}

@@ -1,10 +1,10 @@
 -- Words of bits, and the ⊕ of the values at a word's ones.
 use mathlib.Core.Bool.{Bool, true, false, xor}
 use mathlib.Core.List.{List, [], _∷_}
-use Prim.Native.Nat.{ℕ, zero, suc, _+_}
+use Prim.Native.Nat.{ℕ}
 use lib.ListN.{getD}
 use Rattle.algebra.specs.Xor.{_⊕_}
-use Rattle.algebra.specs.Tables.{num, ones}
+use Rattle.algebra.specs.Tables.{ones}
 
 infixl 65 _⊻_
 abbrev pub Word : Type 0

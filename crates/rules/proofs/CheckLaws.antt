@@ -11,15 +11,15 @@ use lib.ListN.{length, take, getD, length-append, length-map}
 use lib.Seq.{take-suc, take-length, take-at, length-take-le}
 use Rattle.algebra.specs.Xor.{_⊕_}
 use Rattle.algebra.specs.Tables.{tab, num, ones}
-use Rattle.algebra.specs.Words.{Word, bit, _⊻_, kept, dot}
+use Rattle.algebra.specs.Words.{Word, bit, _⊻_, dot}
 use Rattle.algebra.specs.Remainder.{register, powersDown}
-use Rattle.algebra.proofs.XorLaws.{⊕-zero, zero-⊕}
+use Rattle.algebra.proofs.XorLaws.{⊕-zero}
 use Rattle.algebra.proofs.TableLaws.{tab-length}
 use Rattle.algebra.proofs.WordLaws.{dot-one, dot-⊻, dot-++, ones-++, ⊻-length}
 use Rattle.algebra.proofs.ParityLaws.{parity-add, pairs, dot-parity}
 use Rattle.algebra.proofs.RemainderLaws.{register-start, powersDown-length}
 use Rattle.rules.specs.Field.{poly}
-use Rattle.rules.specs.Words.{g, remainder, checks, isCodeword, Codeword, values}
+use Rattle.rules.specs.Words.{g, remainder, checks, isCodeword, values}
 
 -- g without its highest term
 unfoldable pub low : ℕ

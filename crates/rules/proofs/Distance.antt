@@ -1,10 +1,10 @@
 -- Document 01: "Distinct codewords differ in at least 6 places. Lengths below 256 are shortened".
 -- Assumes nothing.
-use mathlib.Core.Path.{_≡_, refl, sym, ap, ap₂, _∙_}
+use mathlib.Core.Path.{_≡_, sym, ap, ap₂, _∙_}
 use mathlib.Core.Logic.{_≢_}
-use mathlib.Core.Bool.{Bool, true, false}
-use mathlib.Core.List.{List, [], _∷_, _++_, append-assoc}
-use Prim.Native.Nat.{ℕ, zero, suc, _+_, _*_, _-_, _%_, _^_, _≤_, _<_}
+use mathlib.Core.Bool.{Bool, false}
+use mathlib.Core.List.{[], _∷_, _++_, append-assoc}
+use Prim.Native.Nat.{ℕ, zero, suc, _+_, _*_, _%_, _^_, _≤_, _<_}
 use native.Mathlib.Nat.{zero-add}
 use native.Mathlib.Decide.{decLt}
 use native.Mathlib.Omega.{arith}
@@ -12,8 +12,8 @@ use lib.ListN.{length, take, replicate, length-append, length-replicate}
 use lib.Seq.{length-take-le}
 use Rattle.algebra.specs.Xor.{_⊕_}
 use Rattle.algebra.specs.Tables.{num, ones}
-use Rattle.algebra.specs.Words.{Word, bit, _⊻_, differ, dot}
-use Rattle.algebra.specs.Remainder.{register, powersDown}
+use Rattle.algebra.specs.Words.{Word, bit, _⊻_, differ}
+use Rattle.algebra.specs.Remainder.{register}
 use Rattle.algebra.specs.Field256.{powers, logs}
 use Rattle.algebra.proofs.Digits.{num-le}
 use Rattle.algebra.proofs.XorLaws.{zero-⊕}
@@ -21,7 +21,7 @@ use Rattle.algebra.proofs.WordLaws.{ones-++, ⊻-length, differ-zero}
 use Rattle.algebra.proofs.RemainderLaws.{register-start, register-++, register-none, ones-none}
 use Rattle.algebra.proofs.Field256Laws.{tables256}
 use Rattle.algebra.proofs.Independent.{independent}
-use Rattle.rules.specs.Words.{g, checks, isCodeword, Codeword}
+use Rattle.rules.specs.Words.{g, checks, Codeword}
 use Rattle.rules.proofs.CheckLaws.{low, low-small, g-low, last-bit, ones-last, checks-split, codeword-checks, checks-⊻}
 use Rattle.rules.proofs.PowerSumLaws.{part, part-additive, part-carried}
 

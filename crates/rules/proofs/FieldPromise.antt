@@ -1,14 +1,14 @@
 -- Document 01's sentences on the field, and on g.
 -- Assumes nothing.
-use mathlib.Core.Path.{_≡_, refl, sym, ap, _∙_}
-use mathlib.Core.List.{List, [], _∷_}
-use Prim.Native.Nat.{ℕ, zero, suc, _+_, _*_, _^_, _≤_, _<_}
+use mathlib.Core.Path.{_≡_, refl, sym, _∙_}
+use mathlib.Core.List.{[], _∷_}
+use Prim.Native.Nat.{ℕ, _≤_, _<_}
 use lib.ListN.{getD}
 use Rattle.algebra.specs.Xor.{_⊕_}
 use Rattle.algebra.specs.Register.{iter, turn}
 use Rattle.algebra.specs.Tables.{tab, tabFrom}
 use Rattle.algebra.specs.Sums.{xsum}
-use Rattle.algebra.specs.Field256.{powers, logs}
+use Rattle.algebra.specs.Field256.{logs}
 use Rattle.algebra.proofs.Field256Laws.{powers256-at, round256, powers256-logs, logs256-lt}
 use Rattle.rules.specs.Field.{poly, minimal₁, minimal₃, timesA, power, valueAt, product}
 use Rattle.rules.specs.Words.{g}

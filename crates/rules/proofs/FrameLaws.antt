@@ -1,15 +1,13 @@
 -- A frame of codewords, row by row and column by column.
 -- Assumes nothing.
-use mathlib.Core.Path.{_≡_, refl, sym, ap, ap₂, _∙_}
-use mathlib.Core.Bool.{Bool, true, false, not}
-use Prim.Native.Nat.{ℕ, zero, suc, _+_, _≤_, _<_}
+use mathlib.Core.Path.{_≡_, ap, ap₂}
+use mathlib.Core.Bool.{true, not}
+use Prim.Native.Nat.{ℕ, _+_, _<_}
 use native.Mathlib.Omega.{arith}
 use borrow.Author.Tests.{eqb-true, eq-eqb, not-false}
-use Rattle.algebra.specs.Tables.{tab, count}
-use Rattle.algebra.specs.Words.{Word}
 use Rattle.algebra.proofs.TableLaws.{count-zero, zero-count}
 use Rattle.rules.specs.Words.{isCodeword}
-use Rattle.rules.specs.Frames.{Frame, row, cell, turned, badRows, badColumns, isFrame}
+use Rattle.rules.specs.Frames.{Frame, row, turned, badRows, badColumns, isFrame}
 use Rattle.rules.proofs.Shape.{Square, turned-twice}
 
 -- every row is a codeword

@@ -13,7 +13,7 @@ use Rattle.rules.specs.Words.{dataBits, isIn, answer, mend}
 use Rattle.rules.specs.Frames.{isFrame, corner, rowsFirst}
 use Rattle.rules.specs.Bits.{rowBytes, wordOf, frameOf, wordBytes, bytesOf, sparesSet}
 use Rattle.rules.specs.Passes.{Outcome, decoded}
-use Rattle.rules.specs.Numbers.{pick, outside, notAllowed, notLong, dataBytes, frameBytes, encodeNumber, encodeOutput, readNumber, readOutput, refused, told, handedOut, decodeRefusal, decodeSaid, decodeOutput, wordRefused, answered, wordRefusal, wordSaid, wordNumber, wordOutput}
+use Rattle.rules.specs.Numbers.{mostAllowed, pick, outside, notAllowed, notLong, dataBytes, frameBytes, encodeNumber, encodeOutput, readNumber, readOutput, refused, told, handedOut, decodeRefusal, decodeSaid, decodeOutput, wordRefused, answered, wordRefusal, wordSaid, wordNumber, wordOutput}
 use Rattle.rules.proofs.OneOfLaws.{OneOf, one-of-self, one-of-back}
 
 -- ---- one check
@@ -129,11 +129,11 @@ read-accepts n input output =
 pub decode-accepts :
     (n allowance : ℕ) (input output : List ℕ)
     → (decodeRefusal n allowance input output ≡ 0)
-    ↔ (Fits n input (frameBytes n) output (frameBytes n) × ((1 ≤ allowance) × (allowance ≤ 32)))
+    ↔ (Fits n input (frameBytes n) output (frameBytes n) × ((1 ≤ allowance) × (allowance ≤ mostAllowed)))
 unfolding decodeRefusal
 decode-accepts n allowance input output =
     Iff·trans (last-accepts n input (frameBytes n) output (frameBytes n) (notAllowed allowance) 3)
-    (Iff·and Iff·rfl (range-test 1 32 allowance))
+    (Iff·and Iff·rfl (range-test 1 mostAllowed allowance))
 
 pub word-accepts :
     (n : ℕ) (input output : List ℕ) → (wordRefusal n input output ≡ 0) ↔ Fits n input (rowBytes n) output (rowBytes n)

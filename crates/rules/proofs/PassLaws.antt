@@ -1,9 +1,8 @@
 -- One step of the passes, by its ending; words of one direction under a pass.
 -- Assumes nothing.
-use mathlib.Core.Path.{_≡_, refl, sym, ap, ap₂, _∙_}
+use mathlib.Core.Path.{_≡_, refl, ap, ap₂, _∙_}
 use mathlib.Core.Bool.{Bool, true, false, cond}
-use Prim.Native.Nat.{ℕ, zero, suc, _+_, _≤_, _<_}
-use native.Mathlib.Omega.{arith}
+use Prim.Native.Nat.{ℕ, suc, _<_}
 use lib.ListN.{length}
 use Rattle.algebra.specs.Words.{Word}
 use Rattle.algebra.specs.Remainder.{isOdd}
@@ -15,6 +14,7 @@ use Rattle.rules.specs.Passes.{
   passColumns,
   pass,
   differences,
+  counted,
   clean,
   repaired,
   stuck,
@@ -34,25 +34,25 @@ use Rattle.rules.proofs.PatternLaws.{changed-length}
 module _ (n a : ℕ) (f : Frame) where
   abbrev begun : Bool → Outcome
   begun true = good clean 0 0 f
-  begun false = passesFrom n a 0 0 f
+  begun false = passesFrom n f a 0 0 f
 
   begins : decoded n a f ≡ begun (isFrame n f)
   unfolding decoded
   begins = go (isFrame n f)
     where
-      go : (b : Bool) → elim b as (λ x. Outcome) [ true ↦ good clean 0 0 f | false ↦ passesFrom n a 0 0 f ] ≡ begun b
+      go : (b : Bool) → elim b as (λ x. Outcome) [ true ↦ good clean 0 0 f | false ↦ passesFrom n f a 0 0 f ] ≡ begun b
       go true = refl
       go false = refl
 
   pub decoded-clean : isFrame n f ≡ true → decoded n a f ≡ good clean 0 0 f
   decoded-clean h = begins ∙ ap begun h
 
-  pub decoded-passes : isFrame n f ≡ false → decoded n a f ≡ passesFrom n a 0 0 f
+  pub decoded-passes : isFrame n f ≡ false → decoded n a f ≡ passesFrom n f a 0 0 f
   decoded-passes h = begins ∙ ap begun h
 
 -- ---- after a pass: the first of the three endings that holds, or one more pass
 
-module _ (n left made flips : ℕ) (f : Frame) where
+module _ (n : ℕ) (received : Frame) (left made flips : ℕ) (f : Frame) where
   abbrev after : Frame
   after = pass n (suc made) f
 
@@ -60,21 +60,21 @@ module _ (n left made flips : ℕ) (f : Frame) where
   changes = differences n f after
 
   abbrev chosen : Bool → Bool → Outcome
-  chosen true s = good repaired (suc made) (flips + changes) after
-  chosen false true = bad stuck (suc made) (flips + changes) n after
-  chosen false false = passesFrom n left (suc made) (flips + changes) after
+  chosen true s = good repaired (suc made) (counted n received flips f after) after
+  chosen false true = bad stuck (suc made) (counted n received flips f after) n after
+  chosen false false = passesFrom n received left (suc made) (counted n received flips f after) after
 
-  steps : passesFrom n (suc left) made flips f ≡ chosen (isFrame n after) (isStuck (suc made) changes)
+  steps : passesFrom n received (suc left) made flips f ≡ chosen (isFrame n after) (isStuck (suc made) changes)
   unfolding passesFrom
   steps = go (isFrame n after) (isStuck (suc made) changes)
     where
       go :
           (b s : Bool)
           → elim b as (λ x. Outcome) [
-            | true ↦ good repaired (suc made) (flips + changes) after
+            | true ↦ good repaired (suc made) (counted n received flips f after) after
             | false ↦ elim s as (λ x. Outcome) [
-              | true ↦ bad stuck (suc made) (flips + changes) n after
-              | false ↦ passesFrom n left (suc made) (flips + changes) after
+              | true ↦ bad stuck (suc made) (counted n received flips f after) n after
+              | false ↦ passesFrom n received left (suc made) (counted n received flips f after) after
             ]
           ]
           ≡ chosen b s
@@ -82,22 +82,22 @@ module _ (n left made flips : ℕ) (f : Frame) where
       go false true = refl
       go false false = refl
 
-  pub step-repaired : isFrame n after ≡ true → passesFrom n (suc left) made flips f ≡ good repaired (suc made) (flips + changes) after
+  pub step-repaired : isFrame n after ≡ true → passesFrom n received (suc left) made flips f ≡ good repaired (suc made) (counted n received flips f after) after
   step-repaired h = steps ∙ ap (λ b. chosen b (isStuck (suc made) changes)) h
 
   pub step-stuck :
       isFrame n after ≡ false → isStuck (suc made) changes ≡ true
-      → passesFrom n (suc left) made flips f ≡ bad stuck (suc made) (flips + changes) n after
+      → passesFrom n received (suc left) made flips f ≡ bad stuck (suc made) (counted n received flips f after) n after
   step-stuck h s = steps ∙ ap₂ chosen h s
 
   pub step-on :
       isFrame n after ≡ false → isStuck (suc made) changes ≡ false
-      → passesFrom n (suc left) made flips f ≡ passesFrom n left (suc made) (flips + changes) after
+      → passesFrom n received (suc left) made flips f ≡ passesFrom n received left (suc made) (counted n received flips f after) after
   step-on h s = steps ∙ ap₂ chosen h s
 
-pub step-spent : (n made flips : ℕ) (f : Frame) → passesFrom n 0 made flips f ≡ bad spent made flips n f
+pub step-spent : (n : ℕ) (received : Frame) (made flips : ℕ) (f : Frame) → passesFrom n received 0 made flips f ≡ bad spent made flips n f
 unfolding passesFrom
-step-spent n made flips f = refl
+step-spent n received made flips f = refl
 
 -- ---- which way a pass goes
 

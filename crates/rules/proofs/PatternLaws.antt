@@ -1,16 +1,14 @@
 -- Patterns of ones and rising lists of places are one thing; changing the places is ⊻ with the pattern.
 -- Assumes nothing.
 use mathlib.Core.Path.{_≡_, refl, sym, ap, ap₂, subst, _∙_}
-use mathlib.Core.Bool.{Bool, true, false, xor, _||_}
+use mathlib.Core.Bool.{true, false, xor, _||_}
 use mathlib.Core.List.{List, [], _∷_}
 use Prim.Native.Nat.{ℕ, zero, suc, _+_, _≤_, _<_}
 use native.Mathlib.Nat.{add-zero, add-suc, suc-add, zero-add}
 use native.Mathlib.Decide.{ℕ-discrete}
 use native.Mathlib.Omega.{arith}
 use borrow.Author.Tests.{eq-eqb, ne-eqb}
-use lib.Dec.{eqb}
 use lib.ListN.{length}
-use Rattle.algebra.specs.Tables.{tab, num, ones}
 use Rattle.algebra.specs.Words.{Word, bit, _⊻_}
 use Rattle.algebra.proofs.TableLaws.{tab-length}
 use Rattle.algebra.proofs.WordLaws.{⊻-length, ⊻-bit, xor-comm}

@@ -2,9 +2,8 @@
 -- Assumes nothing.
 use mathlib.Core.Path.{_≡_, refl}
 use mathlib.Core.List.{List, [], _∷_}
-use Prim.Native.Nat.{ℕ, zero, suc, _+_, _*_, _^_, _≤_, _<_}
+use Prim.Native.Nat.{ℕ, zero, suc, _+_, _*_, _^_, _<_}
 use native.Mathlib.Omega.{arith}
-use lib.Dec.{lit<}
 use Rattle.algebra.specs.Xor.{_⊕_}
 use Rattle.algebra.specs.Register.{iter, turn}
 use Rattle.algebra.specs.Linear.{Additive, lin}

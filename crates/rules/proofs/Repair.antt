@@ -1,19 +1,20 @@
 -- Demand 3 over bytes: what was written comes back, and two written frames, spoiled so, never agree.
 -- Assumes nothing.
-use mathlib.Core.Path.{_≡_, refl, sym, ap, ap₂, _∙_}
-use mathlib.Core.Logic.{_≢_, _⊎_, inl, inr, ⊎-elim}
+use mathlib.Core.Path.{_≡_, refl, sym, ap, _∙_}
+use mathlib.Core.Logic.{_≢_, _⊎_, inl, inr}
 use mathlib.Core.Bool.{Bool, true, false, _||_, true≢false}
 use mathlib.Core.List.{List, [], _∷_}
-use Prim.Native.Nat.{ℕ, zero, suc, _+_, _*_, _≤_, _<_}
+use Prim.Native.Nat.{ℕ, zero, _+_, _*_, _≤_, _<_}
 use native.Mathlib.Omega.{arith}
 use borrow.Author.Tests.{eq-eqb}
 use lib.Dec.{eqb}
 use lib.ListN.{length}
 use Rattle.rules.specs.Words.{dataBits, isIn}
-use Rattle.rules.specs.Frames.{Frame, Square, isFrame, rowsFirst}
+use Rattle.rules.specs.Frames.{Frame, Square, isFrame}
 use Rattle.rules.specs.Bits.{stride, bitAt, wordOf, frameOf, bytesOf}
 use Rattle.rules.specs.Passes.{differences, Ending, clean, repaired, stuck, spent, Outcome, decoded}
 use Rattle.rules.specs.Numbers.{
+  mostAllowed,
   dataBytes,
   frameBytes,
   encodeNumber,
@@ -63,7 +64,7 @@ pub record Repairs : Type 0 where
   -- "at any allowance of two or more"
   pub back :
       (n allowance : ℕ) (written received output : List ℕ) → Written n written → Spoiled n written received → 2 ≤ allowance
-      → allowance ≤ 32 → length output ≡ frameBytes n → Back n allowance written received output
+      → allowance ≤ mostAllowed → length output ≡ frameBytes n → Back n allowance written received output
   -- "No two different written frames, spoiled so, can agree."
   pub apart :
       (n : ℕ) (written written′ received received′ : List ℕ) → Written n written → Written n written′ → written ≢ written′
@@ -128,7 +129,7 @@ module _ (n : ℕ) (written : List ℕ) (w : Written n written) where
 
 back-here :
     (n allowance : ℕ) (written received output : List ℕ) → Written n written → Spoiled n written received → 2 ≤ allowance
-    → allowance ≤ 32 → length output ≡ frameBytes n → Back n allowance written received output
+    → allowance ≤ mostAllowed → length output ≡ frameBytes n → Back n allowance written received output
 unfolding decodeSaid decodeOutput
 back-here n a written received output w s lo hi lent =
     let f : Frame = the-frame n written w in

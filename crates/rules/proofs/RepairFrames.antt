@@ -1,31 +1,19 @@
 -- Demand 3 over frames: a written frame with at most two rows of three or more wrong bits comes back, in at most two passes.
 -- Assumes nothing.
-use mathlib.Core.Path.{_≡_, refl, sym, ap, ap₂, subst, _∙_}
-use mathlib.Core.Logic.{_≢_, _⊎_, inl, inr}
+use mathlib.Core.Path.{_≡_, refl, sym, ap, subst, _∙_}
+use mathlib.Core.Logic.{_⊎_, inl, inr}
 use mathlib.Core.Bool.{Bool, true, false}
-use mathlib.Core.List.{List, [], _∷_}
-use Prim.Native.Nat.{ℕ, zero, suc, _+_, _*_, _≤_, _<_}
+use mathlib.Core.List.{[], _∷_}
+use Prim.Native.Nat.{ℕ, zero, suc, _≤_, _<_}
 use native.Mathlib.Omega.{arith}
 use lib.ListN.{length}
 use Rattle.algebra.specs.Words.{Word, differ}
 use Rattle.rules.specs.Words.{isCodeword, isIn, mend}
 use Rattle.rules.specs.Frames.{Frame, Square, row, turned, isFrame}
-use Rattle.rules.specs.Passes.{
-  passRows,
-  passColumns,
-  pass,
-  differences,
-  Ending,
-  clean,
-  repaired,
-  Outcome,
-  good,
-  passesFrom,
-  decoded,
-}
+use Rattle.rules.specs.Passes.{passRows, passColumns, pass, differences, counted, clean, repaired, Outcome, passesFrom, decoded}
 use Rattle.rules.specs.Damage.{spoilt}
 use Rattle.rules.proofs.Shape.{turned-square, turned-twice}
-use Rattle.rules.proofs.FrameLaws.{Rows, frame-rows, frame-columns}
+use Rattle.rules.proofs.FrameLaws.{frame-rows, frame-columns}
 use Rattle.rules.proofs.Answers.{answers}
 use Rattle.rules.proofs.PassLaws.{decoded-clean, decoded-passes, step-repaired, step-on, pass-one, pass-two, passRows-square}
 use Rattle.rules.proofs.TwoPasses.{rowsMended, rows-left, two-passes, few-wrong, rows-lost}
@@ -86,20 +74,20 @@ module _ (n : ℕ) (h : 18 ≤ n) (b : n ≤ 256) where
     restored : (a : ℕ) → Restored f (decoded n (suc (suc a)) r)
     restored a = start (isFrame n r) refl
       where
-        at-two : (changes : ℕ) → Restored f (passesFrom n (suc a) 1 changes (passRows n r))
+        at-two : (changes : ℕ) → Restored f (passesFrom n r (suc a) 1 changes (passRows n r))
         at-two changes =
             let e : pass n 2 (passRows n r) ≡ f = pass-two n (passRows n r) ∙ both in
-            rw (step-repaired n a 1 changes (passRows n r) (ap (isFrame n) e ∙ k))
+            rw (step-repaired n r a 1 changes (passRows n r) (ap (isFrame n) e ∙ k))
             (record { success = inr refl; frame = e; few = omega arith })
 
-        at-one : (x : Bool) → isFrame n (pass n 1 r) ≡ x → Restored f (passesFrom n (suc (suc a)) 0 0 r)
+        at-one : (x : Bool) → isFrame n (pass n 1 r) ≡ x → Restored f (passesFrom n r (suc (suc a)) 0 0 r)
         at-one true q =
-            rw (step-repaired n (suc a) 0 0 r q)
+            rw (step-repaired n r (suc a) 0 0 r q)
             (record { success = inr refl; frame = pass-one n r ∙ passed-whole (rw pass-one at q); few = omega arith })
         at-one false q =
-            rw (step-on n (suc a) 0 0 r q refl)
-            (subst (λ x. Restored f (passesFrom n (suc a) 1 (0 + differences n r x) x)) (sym (pass-one n r))
-            (at-two (0 + differences n r (passRows n r))))
+            rw (step-on n r (suc a) 0 0 r q refl)
+            (subst (λ x. Restored f (passesFrom n r (suc a) 1 (counted n r 0 r x) x)) (sym (pass-one n r))
+            (at-two (counted n r 0 r (passRows n r))))
 
         start : (x : Bool) → isFrame n r ≡ x → Restored f (decoded n (suc (suc a)) r)
         start true q =

@@ -9,7 +9,7 @@ use Rattle.rules.specs.Words.{dataBits}
 use Rattle.rules.specs.Frames.{Frame, isFrame, corner, rowsFirst}
 use Rattle.rules.specs.Bits.{frameOf, bytesOf, sparesSet}
 use Rattle.rules.specs.Passes.{clean, Outcome, good, decoded}
-use Rattle.rules.specs.Numbers.{dataBytes, frameBytes, encodeNumber, encodeOutput, readNumber, readOutput, refused, ended, told, handedOut, decodeRefusal, decodeSaid, decodeOutput}
+use Rattle.rules.specs.Numbers.{mostAllowed, dataBytes, frameBytes, encodeNumber, encodeOutput, readNumber, readOutput, refused, ended, told, handedOut, decodeRefusal, decodeSaid, decodeOutput}
 use Rattle.rules.proofs.Shape.{frameOf-square}
 use Rattle.rules.proofs.PackLaws.{bytesOf-length, frame-of-bytes, bytes-of-frame, spares-of-bytes}
 use Rattle.rules.proofs.PassLaws.{decoded-clean}
@@ -33,7 +33,7 @@ pub record Trip (n : ℕ) (input output : List ℕ) : Type 0 where
       → (readNumber n s back ≡ 0) × (readOutput n s back ≡ input)
   -- "If it is a frame of codewords, it is clean, with 0 passes."
   pub decodes :
-      (s out : List ℕ) (allowance : ℕ) → Received n input output s → length out ≡ frameBytes n → 1 ≤ allowance → allowance ≤ 32
+      (s out : List ℕ) (allowance : ℕ) → Received n input output s → length out ≡ frameBytes n → 1 ≤ allowance → allowance ≤ mostAllowed
       → (decodeSaid n allowance s out ≡ ended clean 0 0 0 0) × (decodeOutput n allowance s out ≡ encodeOutput n input output)
 
 abbrev pub RoundTrips : Type 0
@@ -53,7 +53,7 @@ module _ (n : ℕ) (s : List ℕ) (le : 18 ≤ n) (most : n ≤ 256) (long : len
       (z, at-zero (readNumber n s back) (bytesOf (dataBits n) (corner (dataBits n) (frameOf n s))) back z ∙ rw is)
 
   decode-frame :
-      (out : List ℕ) (allowance : ℕ) → length out ≡ frameBytes n → 1 ≤ allowance → allowance ≤ 32
+      (out : List ℕ) (allowance : ℕ) → length out ≡ frameBytes n → 1 ≤ allowance → allowance ≤ mostAllowed
       → (decodeSaid n allowance s out ≡ ended clean 0 0 0 0) × (decodeOutput n allowance s out ≡ bytesOf n f)
   unfolding decodeSaid decodeOutput
   decode-frame out allowance e lo hi =

@@ -1,11 +1,11 @@
 -- The search for places, over any list of values and any radius: it finds a pattern of ones exactly if there is one.
 -- Assumes nothing.
-use mathlib.Core.Path.{_≡_, refl, sym, ap, ap₂, _∙_}
+use mathlib.Core.Path.{_≡_, refl, sym, ap, _∙_}
 use mathlib.Core.Logic.{_≢_}
 use mathlib.Core.Bool.{Bool, true, false}
 use mathlib.Core.List.{List, [], _∷_}
 use mathlib.Core.Option.{Option, some, none}
-use Prim.Native.Nat.{ℕ, zero, suc, _+_, _≤_, _<_}
+use Prim.Native.Nat.{ℕ, zero, suc, _+_, _≤_}
 use native.Mathlib.Nat.{zero-add}
 use native.Mathlib.Decide.{decLt}
 use native.Mathlib.Omega.{arith}
@@ -13,9 +13,9 @@ use borrow.Author.Tests.{eqb-true, eqb-false}
 use lib.Dec.{eqb}
 use lib.ListN.{length, replicate, length-replicate}
 use Rattle.algebra.specs.Xor.{_⊕_}
-use Rattle.algebra.specs.Tables.{num, ones}
+use Rattle.algebra.specs.Tables.{ones}
 use Rattle.algebra.specs.Words.{Word, dot}
-use Rattle.algebra.proofs.XorLaws.{⊕-zero, ⊕-comm, ⊕-cancel, zero-⊕, xors}
+use Rattle.algebra.proofs.XorLaws.{⊕-zero, ⊕-comm, ⊕-cancel, zero-⊕}
 use Rattle.algebra.proofs.WordLaws.{dot-none}
 use Rattle.algebra.proofs.RemainderLaws.{ones-none}
 use Rattle.rules.specs.Words.{exactly, within}

@@ -1,7 +1,7 @@
 -- A row pass and a column pass give the written frame back where at most t rows have more than t wrong bits. Stated over the
 -- radius t and any word code that mends t wrong bits.
 -- Assumes nothing.
-use mathlib.Core.Path.{_≡_, refl, sym, ap, ap₂, subst, _∙_}
+use mathlib.Core.Path.{_≡_, refl, sym, ap, ap₂, _∙_}
 use mathlib.Core.Bool.{Bool, true, false, xor, _||_}
 use mathlib.Core.List.{List, [], _∷_}
 use Prim.Native.Nat.{ℕ, zero, suc, _+_, _*_, _≤_, _<_}
@@ -14,7 +14,7 @@ use lib.ListN.{length}
 use Rattle.algebra.specs.Tables.{tab, num, ones, count, total}
 use Rattle.algebra.specs.Words.{Word, bit, _⊻_, differ}
 use Rattle.algebra.proofs.Digits.{num-le}
-use Rattle.algebra.proofs.TableLaws.{tab-zero, tab-suc, tab-length, tab-at, tab-is, count-mono, count-ext, count-total, zero-count, total-mono, total-add}
+use Rattle.algebra.proofs.TableLaws.{tab-zero, tab-suc, tab-at, tab-is, count-mono, count-ext, count-total, zero-count, total-mono, total-add}
 use Rattle.algebra.proofs.WordLaws.{xor-self, differ-self}
 use Rattle.rules.specs.Words.{isIn}
 use Rattle.rules.specs.Frames.{Frame, row, cell, turned}

@@ -1,8 +1,7 @@
 -- Document 01, "Frame and bytes": the bytes.
-use mathlib.Core.Bool.{Bool, true, false, not}
+use mathlib.Core.Bool.{Bool}
 use mathlib.Core.List.{List}
 use Prim.Native.Nat.{ℕ, zero, suc, _+_, _*_, _-_, _/_, _%_, _^_}
-use lib.Dec.{eqb}
 use lib.ListN.{getD}
 use Rattle.algebra.specs.Tables.{tab, num, count, total}
 use Rattle.algebra.specs.Words.{Word, bit}

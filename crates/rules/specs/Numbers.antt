@@ -2,10 +2,9 @@
 -- included, to what is said and what the output holds then.
 use mathlib.Core.Bool.{Bool, true, false, not, _&&_, _||_}
 use mathlib.Core.List.{List, [], _∷_}
-use Prim.Native.Nat.{ℕ, zero, suc, _*_}
+use Prim.Native.Nat.{ℕ, _*_}
 use lib.Dec.{eqb, leb, ltb}
 use lib.ListN.{length, take, drop}
-use Rattle.algebra.specs.Words.{Word}
 use Rattle.rules.specs.Words.{dataBits, Answer, codeword, onePlace, twoPlaces, beyond, answer, mend}
 use Rattle.rules.specs.Frames.{corner, isFrame, rowsFirst}
 use Rattle.rules.specs.Bits.{rowBytes, squareBytes, wordOf, frameOf, wordBytes, bytesOf, sparesSet}
@@ -20,8 +19,11 @@ abbrev pub outside : ℕ → Bool
 outside n = not (leb 18 n && leb n 256)
 
 -- "allowance is not 1..32"
+abbrev pub mostAllowed : ℕ
+mostAllowed = 32
+
 abbrev pub notAllowed : ℕ → Bool
-notAllowed a = not (leb 1 a && leb a 32)
+notAllowed a = not (leb 1 a && leb a mostAllowed)
 
 abbrev pub notLong : List ℕ → ℕ → Bool
 notLong s l = not (eqb (length s) l)
@@ -166,3 +168,22 @@ rowRefused n input i = outside n || notLong input (frameBytes n) || not (ltb i n
 -- "returns an empty part and no number"
 unfoldable pub rowPart : ℕ → List ℕ → ℕ → List ℕ
 rowPart n input i = pick (rowRefused n input i) [] (take (rowBytes n) (drop (i * rowBytes n) input))
+
+-- ---- The entry points, each as one: what is said, and what the output holds at exit
+
+pub record Exit (A : Type 0) : Type 0 where
+  pub said : A
+  pub output : List ℕ
+
+abbrev pub encode : ℕ → List ℕ → List ℕ → Exit ℕ
+encode n input output = record { said = encodeNumber n input output; output = encodeOutput n input output }
+
+abbrev pub read : ℕ → List ℕ → List ℕ → Exit ℕ
+read n input output = record { said = readNumber n input output; output = readOutput n input output }
+
+abbrev pub decode : ℕ → ℕ → List ℕ → List ℕ → Exit Decoded
+decode n allowance input output =
+    record { said = decodeSaid n allowance input output; output = decodeOutput n allowance input output }
+
+abbrev pub decodeWord : ℕ → List ℕ → List ℕ → Exit WordSaid
+decodeWord n input output = record { said = wordSaid n input output; output = wordOutput n input output }

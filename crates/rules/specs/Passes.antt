@@ -46,20 +46,24 @@ bad e passes flips n f =
 abbrev pub isStuck : ℕ → ℕ → Bool
 isStuck p changes = leb 2 p && eqb changes 0
 
--- the passes after the first `made`, with `left` of the allowance left
-unfoldable pub passesFrom : ℕ → ℕ → ℕ → ℕ → Frame → Outcome
-passesFrom n zero made flips f = bad spent made flips n f
-passesFrom n (suc left) made flips f =
+-- "the bits flipped (summed over all passes)": the count after a pass made `now` of `before`
+abbrev pub counted : ℕ → Frame → ℕ → Frame → Frame → ℕ
+counted n received flips before now = flips + differences n before now
+
+-- the passes after the first `made`, with `left` of the allowance left: they "end at the first of these that holds"
+unfoldable pub passesFrom : ℕ → Frame → ℕ → ℕ → ℕ → Frame → Outcome
+passesFrom n received zero made flips f = bad spent made flips n f
+passesFrom n received (suc left) made flips f =
     let h : Frame = pass n (suc made) f in
-    let changes : ℕ = differences n f h in
+    let count : ℕ = counted n received flips f h in
     elim (isFrame n h) [
-      | true ↦ good repaired (suc made) (flips + changes) h
-      | false ↦ elim (isStuck (suc made) changes) [
-        | true ↦ bad stuck (suc made) (flips + changes) n h
-        | false ↦ passesFrom n left (suc made) (flips + changes) h
+      | true ↦ good repaired (suc made) count h
+      | false ↦ elim (isStuck (suc made) (differences n f h)) [
+        | true ↦ bad stuck (suc made) count n h
+        | false ↦ passesFrom n received left (suc made) count h
       ]
     ]
 
 -- "If it is a frame of codewords, it is clean, with 0 passes."
 unfoldable pub decoded : ℕ → ℕ → Frame → Outcome
-decoded n allowance f = elim (isFrame n f) [ true ↦ good clean 0 0 f | false ↦ passesFrom n allowance 0 0 f ]
+decoded n allowance f = elim (isFrame n f) [ true ↦ good clean 0 0 f | false ↦ passesFrom n f allowance 0 0 f ]

@@ -1,9 +1,9 @@
 -- Document 01, "Field and word": the word.
-use mathlib.Core.Bool.{Bool, true, false, cond, xor, _||_}
+use mathlib.Core.Bool.{Bool, true, false, xor, _||_}
 use mathlib.Core.List.{List, [], _∷_, _++_, map}
 use mathlib.Core.Option.{Option, some, none}
 use mathlib.Core.Path.{_≡_}
-use Prim.Native.Nat.{ℕ, zero, suc, _+_, _*_, _-_, _%_, _^_}
+use Prim.Native.Nat.{ℕ, zero, suc, _+_, _*_, _-_, _%_}
 use lib.Dec.{eqb}
 use lib.ListN.{length, take}
 use Rattle.algebra.specs.Xor.{_⊕_}
