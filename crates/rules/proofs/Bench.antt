@@ -1,13 +1,17 @@
 -- Document 01, "Bench items (starred: to be shown)": all of them, as one table under one statement.
 -- Assumes nothing.
-use mathlib.Core.Path.{_≡_, refl}
+use mathlib.Core.Path.{_≡_, refl, sym, ap, _∙_}
+use mathlib.Core.Logic.{_⊎_, inl, inr}
+use mathlib.Core.Bool.{true, false}
 use mathlib.Core.List.{List, [], _∷_, _++_, map}
 use Prim.Native.Nat.{ℕ}
-use lib.ListN.{replicate}
+use native.Mathlib.Omega.{arith}
+use lib.ListN.{length, replicate}
 use Rattle.algebra.specs.Tables.{ones, total}
-use Rattle.rules.specs.Words.{codeword, onePlace, beyond}
+use Rattle.algebra.specs.Words.{Word, bit}
+use Rattle.rules.specs.Words.{isCodeword, Codeword, codeword, onePlace, beyond}
 use Rattle.rules.specs.Frames.{row}
-use Rattle.rules.specs.Bits.{rowBytes, frameOf}
+use Rattle.rules.specs.Bits.{rowBytes, wordOf, frameOf}
 use Rattle.rules.specs.Passes.{clean, repaired, stuck, spent}
 use Rattle.rules.specs.Numbers.{
   frameBytes,
@@ -15,6 +19,7 @@ use Rattle.rules.specs.Numbers.{
   encodeOutput,
   Decoded,
   ended,
+  decodeRefusal,
   decodeSaid,
   decodeOutput,
   WordSaid,
@@ -22,6 +27,8 @@ use Rattle.rules.specs.Numbers.{
   wordSaid,
   wordOutput,
 }
+use Rattle.rules.proofs.Shape.{wordOf-length}
+use Rattle.rules.proofs.EncodeWordLaws.{codeword-unique}
 use Rattle.rules.proofs.Computing.{computing}
 
 -- what is asked of an entry point; every lent output is full of nines
@@ -108,3 +115,49 @@ Bench = map (λ item. got (item .0)) table ≡ map (λ item. item .1) table
 pub bench : Bench
 unfolding computing nines got table
 bench = refl
+
+-- ---- The items without a star: the ranges of n, of the allowance and of the sizes
+
+-- the number that refuses: n, allowance, bytes received, bytes lent
+unfoldable pub refusal : ℕ → ℕ → ℕ → ℕ → ℕ
+refusal n allowance received lent = decodeRefusal n allowance (zeros received) (nines lent)
+
+abbrev pub Ranges : Type 0
+Ranges =
+    -- "n = 17 and 257: number 1; 18 and 256 accepted."
+    refusal 17 2 51 51 ∷ refusal 257 2 8481 8481 ∷ refusal 18 2 54 54 ∷ refusal 256 2 8192 8192
+    -- "Allowance 0 and 33: number 4; 1 and 32 accepted."
+    ∷ refusal 18 0 54 54 ∷ refusal 18 33 54 54 ∷ refusal 18 1 54 54 ∷ refusal 18 32 54 54
+    -- "Frame buffer 53 or 55 bytes at n = 18: number 2; 54 accepted."; and the lent one, number 3
+    ∷ refusal 18 2 53 54 ∷ refusal 18 2 55 54 ∷ refusal 18 2 54 53 ∷ refusal 18 2 54 55 ∷ []
+    ≡ 1 ∷ 1 ∷ 0 ∷ 0 ∷ 4 ∷ 4 ∷ 0 ∷ 0 ∷ 2 ∷ 2 ∷ 3 ∷ 3 ∷ []
+
+pub ranges : Ranges
+unfolding computing nines refusal
+ranges = refl
+
+-- ---- "At n = 18 there are two codewords: zero, and B7 B1 C0 (twelve ones)."
+
+pub record TwoCodewords : Type 0 where
+  pub both : (isCodeword 18 (wordOf 18 o 0) ≡ true) × (isCodeword 18 (wordOf 18 c 0) ≡ true)
+  pub twelve : ones (wordOf 18 c 0) ≡ 12
+  pub only : (w : Word) → Codeword 18 w → (w ≡ wordOf 18 o 0) ⊎ (w ≡ wordOf 18 c 0)
+
+-- one data bit, so one of the two
+by-data :
+    (u : List ℕ) (w : Word) → Codeword 18 w → isCodeword 18 (wordOf 18 u 0) ≡ true → bit w 0 ≡ bit (wordOf 18 u 0) 0
+    → w ≡ wordOf 18 u 0
+by-data u w k code e =
+    codeword-unique 18 w (wordOf 18 u 0) (omega arith) (k .0) (wordOf-length 18 u 0) (k .1) code
+    (λ j h. let z : j ≡ 0 = omega arith in ap (λ i. bit w i) z ∙ e ∙ ap (λ i. bit (wordOf 18 u 0) i) (sym z))
+
+pub two-codewords : TwoCodewords
+unfolding computing
+two-codewords = record {
+  both = (refl, refl);
+  twelve = refl;
+  only = λ w k. elim (bit w 0) as (λ b. bit w 0 ≡ b → (w ≡ wordOf 18 o 0) ⊎ (w ≡ wordOf 18 c 0)) [
+    | true ↦ λ e. inr (by-data c w k refl e)
+    | false ↦ λ e. inl (by-data o w k refl e)
+  ] refl;
+}
