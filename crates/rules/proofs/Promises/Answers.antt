@@ -16,11 +16,11 @@ use Rattle.algebra.specs.Words.{Word, bit, _⊻_, differ}
 use Rattle.algebra.proofs.XorLaws.{⊕-zero, ⊕-zero→≡, ≡→⊕-zero}
 use Rattle.algebra.proofs.WordLaws.{⊻-length, ⊻-cancel, ⊻-ones, differ-zero, differ-comm}
 use Rattle.rules.specs.Words.{checks, isCodeword, Codeword, values, nearest, Answer, codeword, onePlace, twoPlaces, beyond, asAnswer, answer, places, isIn, changed, mend}
-use Rattle.rules.proofs.Shape.{word-ext}
-use Rattle.rules.proofs.CheckLaws.{values-length, checks-dot, checks-⊻, codeword-checks, checks-codeword}
-use Rattle.rules.proofs.Distance.{few-places}
-use Rattle.rules.proofs.SearchLaws.{placesFrom, places-length, Says, within-says}
-use Rattle.rules.proofs.PatternLaws.{Rising, places-rising, pattern, changed-length, changed-bit, changed-pattern}
+use Rattle.rules.proofs.Laws.Shape.{word-ext}
+use Rattle.rules.proofs.Laws.CheckLaws.{values-length, checks-dot, checks-⊻, codeword-checks, checks-codeword}
+use Rattle.rules.proofs.Promises.Distance.{few-places}
+use Rattle.rules.proofs.Laws.SearchLaws.{placesFrom, places-length, Says, within-says}
+use Rattle.rules.proofs.Laws.PatternLaws.{Rising, places-rising, pattern, changed-length, changed-bit, changed-pattern}
 
 -- ---- The statement
 

@@ -30,12 +30,12 @@ use Rattle.rules.specs.Numbers.{
   figuresOf,
 }
 use Rattle.rules.specs.Damage.{spoilt}
-use Rattle.rules.proofs.Shape.{word-ext, frameOf-square, frameOf-row, wordOf-length, wordOf-bit}
-use Rattle.rules.proofs.PackLaws.{spare-free}
-use Rattle.rules.proofs.NumberLaws.{Fits, decode-accepts, at-zero}
-use Rattle.rules.proofs.Encoding.{Encoded}
-use Rattle.rules.proofs.RoundTrip.{frame, accepted, encoded, is-written, is-frame}
-use Rattle.rules.proofs.RepairFrames.{Restored, repairs-frames, eight, two-rows, spoiled-apart}
+use Rattle.rules.proofs.Laws.Shape.{word-ext, frameOf-square, frameOf-row, wordOf-length, wordOf-bit}
+use Rattle.rules.proofs.Laws.PackLaws.{spare-free}
+use Rattle.rules.proofs.Laws.NumberLaws.{Fits, decode-accepts, at-zero}
+use Rattle.rules.proofs.Promises.Encoding.{Encoded}
+use Rattle.rules.proofs.Promises.RoundTrip.{frame, accepted, encoded, is-written, is-frame}
+use Rattle.rules.proofs.Promises.RepairFrames.{Restored, repairs-frames, eight, two-rows, spoiled-apart}
 
 -- ---- The statement
 

@@ -10,10 +10,10 @@ use Rattle.algebra.specs.Words.{Word, bit}
 use Rattle.algebra.proofs.TableLaws.{tab-length}
 use Rattle.rules.specs.Words.{dataBits, encodeWord}
 use Rattle.rules.specs.Frames.{Frame, row, cell, turned, isFrame, corner, rowsFirst, columnsFirst}
-use Rattle.rules.proofs.Shape.{Square, word-ext, square-ext, bit-tab, row-tab, turned-square, turned-cell, turned-twice, corner-square, corner-cell}
-use Rattle.rules.proofs.FrameLaws.{Rows, frame-rows, frame-columns, rows-columns-frame, frame-turned}
-use Rattle.rules.proofs.EncodeWordLaws.{encode-length, encode-data, encode-codeword, codeword-unique}
-use Rattle.rules.proofs.ProductLaws.{rows-carry}
+use Rattle.rules.proofs.Laws.Shape.{Square, word-ext, square-ext, bit-tab, row-tab, turned-square, turned-cell, turned-twice, corner-square, corner-cell}
+use Rattle.rules.proofs.Laws.FrameLaws.{Rows, frame-rows, frame-columns, rows-columns-frame, frame-turned}
+use Rattle.rules.proofs.Laws.EncodeWordLaws.{encode-length, encode-data, encode-codeword, codeword-unique}
+use Rattle.rules.proofs.Laws.ProductLaws.{rows-carry}
 
 -- what document 01 says of encoding the data d to n rows of n bits
 pub record Encoded (n : ℕ) (d : Frame) : Type 0 where

@@ -13,7 +13,7 @@ use Rattle.rules.specs.Bits.{wordOf, frameOf}
 use Rattle.rules.specs.Passes.{repaired, stuck, differences}
 use Rattle.rules.specs.Numbers.{encodeNumber, encodeOutput, ended, decodeSaid, decodeOutput}
 use Rattle.rules.specs.Damage.{spoilt}
-use Rattle.rules.proofs.Computing.{computing}
+use Rattle.rules.proofs.Laws.Computing.{computing}
 
 abbrev zeros : ℕ → List ℕ
 zeros m = replicate m 0

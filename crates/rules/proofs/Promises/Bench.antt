@@ -27,9 +27,9 @@ use Rattle.rules.specs.Numbers.{
   wordSaid,
   wordOutput,
 }
-use Rattle.rules.proofs.Shape.{wordOf-length}
-use Rattle.rules.proofs.EncodeWordLaws.{codeword-unique}
-use Rattle.rules.proofs.Computing.{computing}
+use Rattle.rules.proofs.Laws.Shape.{wordOf-length}
+use Rattle.rules.proofs.Laws.EncodeWordLaws.{codeword-unique}
+use Rattle.rules.proofs.Laws.Computing.{computing}
 
 -- what is asked of an entry point; every lent output is full of nines
 pub data Asked : Type 0 where

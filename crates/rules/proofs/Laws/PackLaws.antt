@@ -16,8 +16,8 @@ use Rattle.algebra.specs.Remainder.{isOdd}
 use Rattle.algebra.proofs.TableLaws.{tab-length, tab-at, tab-past, tab-is, total-zero, zero-total, count-zero, zero-count}
 use Rattle.rules.specs.Frames.{Frame, row, cell}
 use Rattle.rules.specs.Bits.{rowBytes, stride, squareBytes, bitAt, wordOf, frameOf, byteOf, wordBytes, bytesOf, sparesSet}
-use Rattle.rules.proofs.Shape.{Square, word-ext, square-ext, bit-past, frameOf-square, frameOf-cell, wordOf-length, wordOf-bit}
-use Rattle.rules.proofs.BitLaws.{bytes-ext, byteOf-lt, byteOf-digit, bitAt-split}
+use Rattle.rules.proofs.Laws.Shape.{Square, word-ext, square-ext, bit-past, frameOf-square, frameOf-cell, wordOf-length, wordOf-bit}
+use Rattle.rules.proofs.Laws.BitLaws.{bytes-ext, byteOf-lt, byteOf-digit, bitAt-split}
 
 -- entry by entry below k, and so past the end
 tab-lt : (m : ℕ) (f : ℕ → ℕ) (k : ℕ) → ((i : ℕ) → f i < k) → (p : ℕ) → getD (tab m f) p 0 < k

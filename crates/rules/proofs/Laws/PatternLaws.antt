@@ -13,8 +13,8 @@ use Rattle.algebra.specs.Words.{Word, bit, _⊻_}
 use Rattle.algebra.proofs.TableLaws.{tab-length}
 use Rattle.algebra.proofs.WordLaws.{⊻-length, ⊻-bit, xor-comm}
 use Rattle.rules.specs.Words.{isIn, changed}
-use Rattle.rules.proofs.Shape.{word-ext, bit-tab}
-use Rattle.rules.proofs.SearchLaws.{placesFrom}
+use Rattle.rules.proofs.Laws.Shape.{word-ext, bit-tab}
+use Rattle.rules.proofs.Laws.SearchLaws.{placesFrom}
 
 -- rising places from p on, below n
 abbrev pub Rising : ℕ → ℕ → List ℕ → Type 0

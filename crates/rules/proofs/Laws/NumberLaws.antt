@@ -14,7 +14,7 @@ use Rattle.rules.specs.Frames.{isFrame, corner, rowsFirst}
 use Rattle.rules.specs.Bits.{rowBytes, wordOf, frameOf, wordBytes, bytesOf, sparesSet}
 use Rattle.rules.specs.Passes.{Outcome, decoded}
 use Rattle.rules.specs.Numbers.{mostAllowed, pick, outside, notAllowed, notLong, dataBytes, frameBytes, encodeNumber, encodeOutput, readNumber, readOutput, refused, told, handedOut, decodeRefusal, decodeSaid, decodeOutput, wordRefused, answered, wordRefusal, wordSaid, wordNumber, wordOutput}
-use Rattle.rules.proofs.OneOfLaws.{OneOf, one-of-self, one-of-back}
+use Rattle.rules.proofs.Laws.OneOfLaws.{OneOf, one-of-self, one-of-back}
 
 -- ---- one check
 

@@ -8,7 +8,7 @@ use borrow.Author.Tests.{eqb-true, eq-eqb, not-false}
 use Rattle.algebra.proofs.TableLaws.{count-zero, zero-count}
 use Rattle.rules.specs.Words.{isCodeword}
 use Rattle.rules.specs.Frames.{Frame, row, turned, badRows, badColumns, isFrame}
-use Rattle.rules.proofs.Shape.{Square, turned-twice}
+use Rattle.rules.proofs.Laws.Shape.{Square, turned-twice}
 
 -- every row is a codeword
 abbrev pub Rows : ℕ → Frame → Type 0

@@ -17,9 +17,9 @@ use Rattle.rules.specs.Frames.{Frame, isFrame, corner, rowsFirst}
 use Rattle.rules.specs.Bits.{rowBytes, wordOf, frameOf, wordBytes, bytesOf, sparesSet}
 use Rattle.rules.specs.Passes.{Ending, clean, repaired, stuck, spent, Outcome, decoded}
 use Rattle.rules.specs.Numbers.{pick, outside, notLong, notAllowed, dataBytes, frameBytes, encodeNumber, encodeOutput, readNumber, readOutput, refused, told, handedOut, decodeRefusal, decodeSaid, decodeOutput, endingNumber, number, wordRefused, answered, wordRefusal, wordSaid, wordNumber, wordOutput, CheckList, first, encodeChecks, readChecks, decodeChecks, wordChecks, rowRefused, rowPart}
-use Rattle.rules.proofs.PackLaws.{bytesOf-length, wordBytes-length}
-use Rattle.rules.proofs.NumberLaws.{range-test, equal-test, checked-in, last-in, encode-accepts, read-accepts, decode-accepts, word-accepts, at-zero, at-other, at-either}
-use Rattle.rules.proofs.OneOfLaws.{OneOf, one-of-cons, one-of-back, one-of-front, allIn, one-of-range}
+use Rattle.rules.proofs.Laws.PackLaws.{bytesOf-length, wordBytes-length}
+use Rattle.rules.proofs.Laws.NumberLaws.{range-test, equal-test, checked-in, last-in, encode-accepts, read-accepts, decode-accepts, word-accepts, at-zero, at-other, at-either}
+use Rattle.rules.proofs.Laws.OneOfLaws.{OneOf, one-of-cons, one-of-back, one-of-front, allIn, one-of-range}
 
 -- the table's rows for one entry point: the number given, and what the output holds then
 pub record Table (refusals endings : List ℕ) (given : ℕ) (accepted input output out : List ℕ) : Type 0 where

@@ -22,8 +22,8 @@ use Rattle.algebra.proofs.RemainderLaws.{register-start, register-++, register-
 use Rattle.algebra.proofs.Field256Laws.{tables256}
 use Rattle.algebra.proofs.Independent.{independent}
 use Rattle.rules.specs.Words.{g, checks, Codeword}
-use Rattle.rules.proofs.CheckLaws.{low, low-small, g-low, last-bit, ones-last, checks-split, codeword-checks, checks-⊻}
-use Rattle.rules.proofs.PowerSumLaws.{part, part-additive, part-carried}
+use Rattle.rules.proofs.Laws.CheckLaws.{low, low-small, g-low, last-bit, ones-last, checks-split, codeword-checks, checks-⊻}
+use Rattle.rules.proofs.Laws.PowerSumLaws.{part, part-additive, part-carried}
 
 -- "Distinct codewords differ in at least 6 places."
 abbrev pub Distance : Type 0

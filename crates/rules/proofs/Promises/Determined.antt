@@ -7,7 +7,7 @@ use lib.ListN.{length}
 use Rattle.algebra.specs.Words.{Word}
 use Rattle.rules.specs.Words.{Answer}
 use Rattle.rules.specs.Numbers.{Exit, encode, read, decode, decodeWord, rowPart}
-use Rattle.rules.proofs.Answers.{Fits, answers}
+use Rattle.rules.proofs.Promises.Answers.{Fits, answers}
 
 -- what an entry point promises, for all arguments: its result and the output at exit are the definition's
 abbrev pub Keeps : {A : Type 0} → Exit A → A → List ℕ → Type 0

@@ -26,8 +26,8 @@ use Rattle.rules.specs.Passes.{
   passesFrom,
   decoded,
 }
-use Rattle.rules.proofs.Shape.{row-tab, turned-square}
-use Rattle.rules.proofs.PatternLaws.{changed-length}
+use Rattle.rules.proofs.Laws.Shape.{row-tab, turned-square}
+use Rattle.rules.proofs.Laws.PatternLaws.{changed-length}
 
 -- ---- the start
 

@@ -20,7 +20,7 @@ use Rattle.rules.specs.Words.{isIn}
 use Rattle.rules.specs.Frames.{Frame, row, cell, turned}
 use Rattle.rules.specs.Passes.{differences}
 use Rattle.rules.specs.Damage.{spoilt}
-use Rattle.rules.proofs.Shape.{Square, turned-square, turned-row, turned-twice}
+use Rattle.rules.proofs.Laws.Shape.{Square, turned-square, turned-row, turned-twice}
 
 -- two tables differ where their rules do
 differ-tab : (n : ℕ) (p q : ℕ → Bool) → differ (tab n p) (tab n q) ≡ count n (λ i. xor (p i) (q i))

@@ -18,11 +18,11 @@ use Rattle.algebra.proofs.TableLaws.{tab-length, tab-ext, zero-count}
 use Rattle.algebra.proofs.WordLaws.{⊻-length, ⊻-bit, dot-none}
 use Rattle.rules.specs.Words.{dataBits, checks, isCodeword, values}
 use Rattle.rules.specs.Frames.{Frame, row, cell, turned}
-use Rattle.rules.proofs.Shape.{Square, word-ext, bit-tab, turned-row}
-use Rattle.rules.proofs.BitLaws.{same-digits}
-use Rattle.rules.proofs.CheckLaws.{checks-dot, checks-⊻, codeword-checks, checks-codeword, values-length}
-use Rattle.rules.proofs.FrameLaws.{Rows}
-use Rattle.rules.proofs.EncodeWordLaws.{codeword-zero, ones-no}
+use Rattle.rules.proofs.Laws.Shape.{Square, word-ext, bit-tab, turned-row}
+use Rattle.rules.proofs.Laws.BitLaws.{same-digits}
+use Rattle.rules.proofs.Laws.CheckLaws.{checks-dot, checks-⊻, codeword-checks, checks-codeword, values-length}
+use Rattle.rules.proofs.Laws.FrameLaws.{Rows}
+use Rattle.rules.proofs.Laws.EncodeWordLaws.{codeword-zero, ones-no}
 
 -- ---- digits of numbers
 

@@ -10,11 +10,11 @@ use Rattle.rules.specs.Frames.{Frame, isFrame, corner, rowsFirst}
 use Rattle.rules.specs.Bits.{frameOf, bytesOf, sparesSet}
 use Rattle.rules.specs.Passes.{clean, Outcome, good, decoded}
 use Rattle.rules.specs.Numbers.{mostAllowed, dataBytes, frameBytes, encodeNumber, encodeOutput, readNumber, readOutput, refused, ended, told, handedOut, decodeRefusal, decodeSaid, decodeOutput}
-use Rattle.rules.proofs.Shape.{frameOf-square}
-use Rattle.rules.proofs.PackLaws.{bytesOf-length, frame-of-bytes, bytes-of-frame, spares-of-bytes}
-use Rattle.rules.proofs.PassLaws.{decoded-clean}
-use Rattle.rules.proofs.Encoding.{Encoded, encoding}
-use Rattle.rules.proofs.NumberLaws.{Fits, encode-accepts, read-accepts, decode-accepts, at-zero}
+use Rattle.rules.proofs.Laws.Shape.{frameOf-square}
+use Rattle.rules.proofs.Laws.PackLaws.{bytesOf-length, frame-of-bytes, bytes-of-frame, spares-of-bytes}
+use Rattle.rules.proofs.Laws.PassLaws.{decoded-clean}
+use Rattle.rules.proofs.Promises.Encoding.{Encoded, encoding}
+use Rattle.rules.proofs.Laws.NumberLaws.{Fits, encode-accepts, read-accepts, decode-accepts, at-zero}
 
 -- a list whose code bits are those that encoding wrote: spare bits set in any way
 abbrev pub Received : ℕ → List ℕ → List ℕ → List ℕ → Type 0

@@ -17,7 +17,7 @@ use Rattle.algebra.proofs.TableLaws.{tab-is, zero-count, count-zero}
 use Rattle.algebra.proofs.WordLaws.{xor-self, ⊻-length, ⊻-bit, differ-zero, ones-++}
 use Rattle.algebra.proofs.RemainderLaws.{binary-length, systematic-divisible, divisible-zero}
 use Rattle.rules.specs.Words.{g, dataBits, checks, isCodeword, encodeWord}
-use Rattle.rules.proofs.CheckLaws.{low, low-small, g-low, last-bit, checks-split, codeword-checks, checks-codeword, checks-⊻}
+use Rattle.rules.proofs.Laws.CheckLaws.{low, low-small, g-low, last-bit, checks-split, codeword-checks, checks-codeword, checks-⊻}
 
 -- ---- words without ones
 

@@ -12,11 +12,11 @@ use Rattle.rules.specs.Words.{isCodeword, isIn, mend}
 use Rattle.rules.specs.Frames.{Frame, Square, row, turned, isFrame}
 use Rattle.rules.specs.Passes.{passRows, passColumns, pass, differences, counted, clean, repaired, Outcome, passesFrom, decoded}
 use Rattle.rules.specs.Damage.{spoilt}
-use Rattle.rules.proofs.Shape.{turned-square, turned-twice}
-use Rattle.rules.proofs.FrameLaws.{frame-rows, frame-columns}
-use Rattle.rules.proofs.Answers.{answers}
-use Rattle.rules.proofs.PassLaws.{decoded-clean, decoded-passes, step-repaired, step-on, pass-one, pass-two, passRows-square}
-use Rattle.rules.proofs.TwoPasses.{rowsMended, rows-left, two-passes, few-wrong, rows-lost}
+use Rattle.rules.proofs.Laws.Shape.{turned-square, turned-twice}
+use Rattle.rules.proofs.Laws.FrameLaws.{frame-rows, frame-columns}
+use Rattle.rules.proofs.Promises.Answers.{answers}
+use Rattle.rules.proofs.Laws.PassLaws.{decoded-clean, decoded-passes, step-repaired, step-on, pass-one, pass-two, passRows-square}
+use Rattle.rules.proofs.Laws.TwoPasses.{rowsMended, rows-left, two-passes, few-wrong, rows-lost}
 
 -- ---- The statement
 

@@ -1,0 +1,20 @@
+-- Bits, bytes and shapes
+pub mod Shape
+pub mod BitLaws
+pub mod PackLaws
+-- Words
+pub mod CheckLaws
+pub mod PowerSumLaws
+pub mod SearchLaws
+pub mod PatternLaws
+pub mod EncodeWordLaws
+-- Frames and passes
+pub mod FrameLaws
+pub mod ProductLaws
+pub mod PassLaws
+pub mod TwoPasses
+-- Numbers
+pub mod OneOfLaws
+pub mod NumberLaws
+-- Every definition opened at once
+pub mod Computing

@@ -1,0 +1,15 @@
+-- The field and the word
+pub mod FieldPromise
+pub mod Distance
+pub mod Answers
+-- The frame, and what stands in the output
+pub mod Encoding
+pub mod RoundTrip
+pub mod Refusals
+pub mod Determined
+-- Demand 3, and where it ends
+pub mod RepairFrames
+pub mod Repair
+pub mod Limit
+-- Document 01's examples
+pub mod Bench
