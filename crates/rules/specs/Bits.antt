@@ -28,6 +28,7 @@ bitAt s j = isOdd (getD s (j / 8) 0 / 2 ^ (7 - j % 8))
 unfoldable pub wordOf : ℕ → List ℕ → ℕ → Word
 wordOf n s start = tab n (λ j. bitAt s (start + j))
 
+-- "The decoder takes no notice of received spare bits": row i starts at bit i × stride
 unfoldable pub frameOf : ℕ → List ℕ → Frame
 frameOf n s = tab n (λ i. wordOf n s (i * stride n))
 
@@ -40,6 +41,7 @@ packed w j (suc m) = packed w j m * 2 + num (bit w (j + m))
 abbrev pub byteOf : Word → ℕ → ℕ
 byteOf w b = packed w (b * 8) 8
 
+-- a word, and n rows, in bytes
 unfoldable pub wordBytes : ℕ → Word → List ℕ
 wordBytes n w = tab (rowBytes n) (λ b. byteOf w b)
 

@@ -43,10 +43,10 @@ isFrame n f = eqb (badRows n f + badColumns n f) 0
 unfoldable pub corner : ℕ → Frame → Frame
 corner k f = tab k (λ i. tab k (λ j. cell f i j))
 
--- the k rows encoded, then each of the n columns that they make
+-- "Encoding rows first": the k rows encoded, then each of the n columns that they make
 unfoldable pub rowsFirst : ℕ → Frame → Frame
 rowsFirst n d = turned n (tab n (λ j. encodeWord (tab (dataBits n) (λ i. bit (encodeWord (row d i)) j))))
 
--- the same with rows and columns changed over
+-- "or columns first": the same with rows and columns changed over
 unfoldable pub columnsFirst : ℕ → Frame → Frame
 columnsFirst n d = turned n (rowsFirst n (turned (dataBits n) d))

@@ -25,9 +25,11 @@ mostAllowed = 32
 abbrev pub notAllowed : ℕ → Bool
 notAllowed a = not (leb 1 a && leb a mostAllowed)
 
+-- the length is not exactly l
 abbrev pub notLong : List ℕ → ℕ → Bool
 notLong s l = not (eqb (length s) l)
 
+-- the lengths of a frame and of its data, in bytes
 abbrev pub frameBytes : ℕ → ℕ
 frameBytes n = squareBytes n
 
@@ -57,6 +59,7 @@ encodeChecks n input output =
 unfoldable pub encodeNumber : ℕ → List ℕ → List ℕ → ℕ
 encodeNumber n input output = first (encodeChecks n input output)
 
+-- "The encoder writes spare bits as zero and refuses data in which one is set."
 unfoldable pub encodeOutput : ℕ → List ℕ → List ℕ → List ℕ
 encodeOutput n input output =
     pick (eqb (encodeNumber n input output) 0) (bytesOf n (rowsFirst n (frameOf (dataBits n) input))) output
@@ -71,6 +74,7 @@ readChecks n input output =
 unfoldable pub readNumber : ℕ → List ℕ → List ℕ → ℕ
 readNumber n input output = first (readChecks n input output)
 
+-- "Reading data takes no notice of the frame's spare bits and writes the data's as zero."
 unfoldable pub readOutput : ℕ → List ℕ → List ℕ → List ℕ
 readOutput n input output =
     pick (eqb (readNumber n input output) 0) (bytesOf (dataBits n) (corner (dataBits n) (frameOf n input))) output
@@ -89,6 +93,7 @@ decodeChecks n allowance input output =
 unfoldable pub decodeRefusal : ℕ → ℕ → List ℕ → List ℕ → ℕ
 decodeRefusal n allowance input output = first (decodeChecks n allowance input output)
 
+-- what is said of an outcome: all but its frame
 abbrev pub told : Outcome → Decoded
 told o = ended (o .ending) (o .passes) (o .flips) (o .rows) (o .columns)
 
@@ -106,6 +111,7 @@ unfoldable pub decodeOutput : ℕ → ℕ → List ℕ → List ℕ → List ℕ
 decodeOutput n allowance input output =
     pick (eqb (decodeRefusal n allowance input output) 0) (handedOut n input (decoded n allowance (frameOf n input))) output
 
+-- "0: clean, repaired", "7: stuck", "8: spent"
 abbrev pub endingNumber : Ending → ℕ
 endingNumber clean = 0
 endingNumber repaired = 0
@@ -145,6 +151,7 @@ unfoldable pub wordSaid : ℕ → List ℕ → List ℕ → WordSaid
 wordSaid n input output =
     let r : ℕ = wordRefusal n input output in pick (eqb r 0) (answered (answer n (wordOf n input 0))) (wordRefused r)
 
+-- "0: word accepted", "9: no codeword within two (single word)"
 abbrev pub wordNumber : WordSaid → ℕ
 wordNumber (wordRefused r) = r
 wordNumber (answered codeword) = 0

@@ -8,6 +8,7 @@ use Rattle.algebra.specs.Remainder.{isOdd}
 use Rattle.rules.specs.Words.{mend}
 use Rattle.rules.specs.Frames.{Frame, row, turned, badRows, badColumns, isFrame}
 
+-- "In a pass each word that has a codeword within two is replaced by it; each other word is left."
 unfoldable pub passRows : ℕ → Frame → Frame
 passRows n f = tab n (λ i. mend n (row f i))
 
@@ -22,6 +23,7 @@ pass n p f = cond (isOdd p) (passRows n f) (passColumns n f)
 unfoldable pub differences : ℕ → Frame → Frame → ℕ
 differences n f h = total n (λ i. differ (row f i) (row h i))
 
+-- "it is clean", and the three endings after a pass
 pub data Ending : Type 0 where
   clean repaired stuck spent : Ending
 
@@ -35,9 +37,11 @@ pub record Outcome : Type 0 where
   pub columns : ℕ
   pub last : Frame
 
+-- clean and repaired: no row and no column is left that is not a codeword
 abbrev pub good : Ending → ℕ → ℕ → Frame → Outcome
 good e passes flips f = record { ending = e; passes = passes; flips = flips; rows = 0; columns = 0; last = f }
 
+-- stuck and spent
 abbrev pub bad : Ending → ℕ → ℕ → ℕ → Frame → Outcome
 bad e passes flips n f =
     record { ending = e; passes = passes; flips = flips; rows = badRows n f; columns = badColumns n f; last = f }

@@ -74,6 +74,7 @@ pub data Answer : Type 0 where
   -- "or no codeword lies within two"
   beyond : Answer
 
+-- the places found, as one of the four
 unfoldable pub asAnswer : Option (List ℕ) → Answer
 asAnswer (some []) = codeword
 asAnswer (some (p ∷ [])) = onePlace p
@@ -91,6 +92,7 @@ places (onePlace p) = p ∷ []
 places (twoPlaces p q) = p ∷ q ∷ []
 places beyond = []
 
+-- is j one of the places
 unfoldable pub isIn : ℕ → List ℕ → Bool
 isIn j [] = false
 isIn j (p ∷ ps) = eqb j p || isIn j ps

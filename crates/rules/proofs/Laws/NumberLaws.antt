@@ -59,23 +59,23 @@ abbrev pub checked : ℕ → List ℕ → ℕ → List ℕ → ℕ → ℕ → �
 checked n input a output b rest = pick (outside n) 1 (both-checked input a output b rest)
 
 -- n is 18..256, the input has a bytes and the output b
-pub record Fits (n : ℕ) (input : List ℕ) (a : ℕ) (output : List ℕ) (b : ℕ) : Type 0 where
+pub record Sized (n : ℕ) (input : List ℕ) (a : ℕ) (output : List ℕ) (b : ℕ) : Type 0 where
   pub from : 18 ≤ n
   pub upTo : n ≤ 256
   pub taken : length input ≡ a
   pub lent : length output ≡ b
 
 module _ (n : ℕ) (input : List ℕ) (a : ℕ) (output : List ℕ) (b : ℕ) where
-  pub checked-accepts : (rest : ℕ) → (checked n input a output b rest ≡ 0) ↔ (Fits n input a output b × (rest ≡ 0))
+  pub checked-accepts : (rest : ℕ) → (checked n input a output b rest ≡ 0) ↔ (Sized n input a output b × (rest ≡ 0))
   checked-accepts rest = (there, back)
     where
-      there : checked n input a output b rest ≡ 0 → Fits n input a output b × (rest ≡ 0)
+      there : checked n input a output b rest ≡ 0 → Sized n input a output b × (rest ≡ 0)
       there h =
           let p₁ = pick-zero (outside n) 0 (both-checked input a output b rest) h in
           let p₂ = pick-zero (notLong input a) 1 (lent-checked output b rest) (p₁ .1) in
           let p₃ = pick-zero (notLong output b) 2 rest (p₂ .1) in
           let r = range-test 18 256 n .0 (p₁ .0) in
-          let f : Fits n input a output b =
+          let f : Sized n input a output b =
           record {
             from = r .0;
             upTo = r .1;
@@ -84,7 +84,7 @@ module _ (n : ℕ) (input : List ℕ) (a : ℕ) (output : List ℕ) (b : ℕ) wh
           } in
           (f, p₃ .1)
 
-      back : Fits n input a output b × (rest ≡ 0) → checked n input a output b rest ≡ 0
+      back : Sized n input a output b × (rest ≡ 0) → checked n input a output b rest ≡ 0
       back (f, h) =
           zero-pick (outside n) 1 (both-checked input a output b rest) (range-test 18 256 n .1 (f .from, f .upTo))
           (zero-pick (notLong input a) 2 (lent-checked output b rest) (equal-test (length input) a .1 (f .taken))
@@ -92,7 +92,7 @@ module _ (n : ℕ) (input : List ℕ) (a : ℕ) (output : List ℕ) (b : ℕ) wh
 
   -- with one check more
   pub last-accepts :
-      (c : Bool) (r : ℕ) → (checked n input a output b (pick c (suc r) 0) ≡ 0) ↔ (Fits n input a output b × (c ≡ false))
+      (c : Bool) (r : ℕ) → (checked n input a output b (pick c (suc r) 0) ≡ 0) ↔ (Sized n input a output b × (c ≡ false))
   last-accepts c r =
       Iff·trans (checked-accepts (pick c (suc r) 0))
       (Iff·and Iff·rfl (λ h. pick-zero c r 0 h .0, λ h. zero-pick c (suc r) 0 h refl))
@@ -112,7 +112,7 @@ module _ (n : ℕ) (input : List ℕ) (a : ℕ) (output : List ℕ) (b : ℕ) wh
 
 pub encode-accepts :
     (n : ℕ) (input output : List ℕ)
-    → (encodeNumber n input output ≡ 0) ↔ (Fits n input (dataBytes n) output (frameBytes n) × (sparesSet (dataBits n) input ≡ 0))
+    → (encodeNumber n input output ≡ 0) ↔ (Sized n input (dataBytes n) output (frameBytes n) × (sparesSet (dataBits n) input ≡ 0))
 unfolding encodeNumber
 encode-accepts n input output =
     Iff·trans (last-accepts n input (dataBytes n) output (frameBytes n) (not (eqb (sparesSet (dataBits n) input) 0)) 4)
@@ -120,7 +120,7 @@ encode-accepts n input output =
 
 pub read-accepts :
     (n : ℕ) (input output : List ℕ)
-    → (readNumber n input output ≡ 0) ↔ (Fits n input (frameBytes n) output (dataBytes n) × (isFrame n (frameOf n input) ≡ true))
+    → (readNumber n input output ≡ 0) ↔ (Sized n input (frameBytes n) output (dataBytes n) × (isFrame n (frameOf n input) ≡ true))
 unfolding readNumber
 read-accepts n input output =
     Iff·trans (last-accepts n input (frameBytes n) output (dataBytes n) (not (isFrame n (frameOf n input))) 5)
@@ -129,14 +129,14 @@ read-accepts n input output =
 pub decode-accepts :
     (n allowance : ℕ) (input output : List ℕ)
     → (decodeRefusal n allowance input output ≡ 0)
-    ↔ (Fits n input (frameBytes n) output (frameBytes n) × ((1 ≤ allowance) × (allowance ≤ mostAllowed)))
+    ↔ (Sized n input (frameBytes n) output (frameBytes n) × ((1 ≤ allowance) × (allowance ≤ mostAllowed)))
 unfolding decodeRefusal
 decode-accepts n allowance input output =
     Iff·trans (last-accepts n input (frameBytes n) output (frameBytes n) (notAllowed allowance) 3)
     (Iff·and Iff·rfl (range-test 1 mostAllowed allowance))
 
 pub word-accepts :
-    (n : ℕ) (input output : List ℕ) → (wordRefusal n input output ≡ 0) ↔ Fits n input (rowBytes n) output (rowBytes n)
+    (n : ℕ) (input output : List ℕ) → (wordRefusal n input output ≡ 0) ↔ Sized n input (rowBytes n) output (rowBytes n)
 unfolding wordRefusal
 word-accepts n input output =
     Iff·trans (checked-accepts n input (rowBytes n) output (rowBytes n) 0) (λ h. h .0, λ f. (f, refl))

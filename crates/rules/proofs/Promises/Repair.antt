@@ -32,7 +32,7 @@ use Rattle.rules.specs.Numbers.{
 use Rattle.rules.specs.Damage.{spoilt}
 use Rattle.rules.proofs.Laws.Shape.{word-ext, frameOf-square, frameOf-row, wordOf-length, wordOf-bit}
 use Rattle.rules.proofs.Laws.PackLaws.{spare-free}
-use Rattle.rules.proofs.Laws.NumberLaws.{Fits, decode-accepts, at-zero}
+use Rattle.rules.proofs.Laws.NumberLaws.{Sized, decode-accepts, at-zero}
 use Rattle.rules.proofs.Promises.Encoding.{Encoded}
 use Rattle.rules.proofs.Promises.RoundTrip.{frame, accepted, encoded, is-written, is-frame}
 use Rattle.rules.proofs.Promises.RepairFrames.{Restored, repairs-frames, eight, two-rows, spoiled-apart}
@@ -102,7 +102,7 @@ module _ (n : ℕ) (written : List ℕ) (w : Written n written) where
   the-frame : Frame
   the-frame = frame n (w .input)
 
-  ok : Fits n (w .input) (dataBytes n) (w .blank) (frameBytes n)
+  ok : Sized n (w .input) (dataBytes n) (w .blank) (frameBytes n)
   ok = accepted n (w .input) (w .blank) (w .accepts) .0
 
   made : Encoded n (frameOf (dataBits n) (w .input))

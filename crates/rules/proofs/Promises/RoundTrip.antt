@@ -1,6 +1,7 @@
 -- The promise about bytes: what encoding writes is read and decoded back, whatever the spare bits.
 -- Assumes nothing.
 use mathlib.Core.Path.{_≡_, refl, sym, ap, _∙_}
+use mathlib.Core.Logic.{_↔_}
 use mathlib.Core.Bool.{true}
 use mathlib.Core.List.{List}
 use Prim.Native.Nat.{ℕ, _≤_, _<_}
@@ -14,7 +15,7 @@ use Rattle.rules.proofs.Laws.Shape.{frameOf-square}
 use Rattle.rules.proofs.Laws.PackLaws.{bytesOf-length, frame-of-bytes, bytes-of-frame, spares-of-bytes}
 use Rattle.rules.proofs.Laws.PassLaws.{decoded-clean}
 use Rattle.rules.proofs.Promises.Encoding.{Encoded, encoding}
-use Rattle.rules.proofs.Laws.NumberLaws.{Fits, encode-accepts, read-accepts, decode-accepts, at-zero}
+use Rattle.rules.proofs.Laws.NumberLaws.{Sized, encode-accepts, read-accepts, decode-accepts, at-zero}
 
 -- a list whose code bits are those that encoding wrote: spare bits set in any way
 abbrev pub Received : ℕ → List ℕ → List ℕ → List ℕ → Type 0
@@ -36,9 +37,13 @@ pub record Trip (n : ℕ) (input output : List ℕ) : Type 0 where
       (s out : List ℕ) (allowance : ℕ) → Received n input output s → length out ≡ frameBytes n → 1 ≤ allowance → allowance ≤ mostAllowed
       → (decodeSaid n allowance s out ≡ ended clean 0 0 0 0) × (decodeOutput n allowance s out ≡ encodeOutput n input output)
 
-abbrev pub RoundTrips : Type 0
-RoundTrips =
-    (n : ℕ) (input output : List ℕ) → ((p : ℕ) → getD input p 0 < 256) → encodeNumber n input output ≡ 0 → Trip n input output
+pub record RoundTrips : Type 0 where
+  -- encoding is refused only for n, for a size or for a spare bit
+  pub accepts :
+      (n : ℕ) (input output : List ℕ)
+      → (encodeNumber n input output ≡ 0) ↔ (Sized n input (dataBytes n) output (frameBytes n) × (sparesSet (dataBits n) input ≡ 0))
+  pub trip :
+      (n : ℕ) (input output : List ℕ) → ((p : ℕ) → getD input p 0 < 256) → encodeNumber n input output ≡ 0 → Trip n input output
 
 -- ---- a frame of codewords is read, and is clean
 
@@ -71,7 +76,7 @@ abbrev pub frame : ℕ → List ℕ → Frame
 frame n input = rowsFirst n (frameOf (dataBits n) input)
 
 module _ (n : ℕ) (input output : List ℕ) (zero : encodeNumber n input output ≡ 0) where
-  pub accepted : Fits n input (dataBytes n) output (frameBytes n) × (sparesSet (dataBits n) input ≡ 0)
+  pub accepted : Sized n input (dataBytes n) output (frameBytes n) × (sparesSet (dataBits n) input ≡ 0)
   accepted = encode-accepts n input output .0 zero
 
   pub encoded : Encoded n (frameOf (dataBits n) input)
@@ -85,8 +90,9 @@ module _ (n : ℕ) (input output : List ℕ) (zero : encodeNumber n input output
   pub is-frame : (s : List ℕ) → frameOf n s ≡ frameOf n (encodeOutput n input output) → frameOf n s ≡ frame n input
   is-frame s e = e ∙ ap (frameOf n) is-written ∙ frame-of-bytes n (frame n input) (encoded .square)
 
-pub round-trips : RoundTrips
-round-trips n input output bytes zero =
+trip-here :
+    (n : ℕ) (input output : List ℕ) → ((p : ℕ) → getD input p 0 < 256) → encodeNumber n input output ≡ 0 → Trip n input output
+trip-here n input output bytes zero =
     let a = accepted n input output zero in
     let f : Frame = frame n input in
     let w = is-written n input output zero in
@@ -102,3 +108,6 @@ round-trips n input output bytes zero =
           let p = decode-frame n s (a .0 .from) (a .0 .upTo) (r .0) f (is-frame n input output zero s (r .1)) (e .frame) out allowance h lo hi in
           (p .0, p .1 ∙ sym w);
     }
+
+pub round-trips : RoundTrips
+round-trips = record { accepts = encode-accepts; trip = trip-here }
