@@ -17,4 +17,5 @@ pub mod TableLaws
 pub mod WordLaws
 pub mod ParityLaws
 pub mod RemainderLaws
+pub mod DivisionLaws
 pub mod Independent

@@ -1,6 +1,6 @@
 -- What makes two lists the tables of powers and logarithms of a field made by a register: tests that compute.
 use mathlib.Core.List.{List, [], _∷_}
-use mathlib.Core.Bool.{Bool, _&&_}
+use mathlib.Core.Bool.{Bool, true, _&&_}
 use Prim.Native.Nat.{ℕ, suc, _%_, _^_}
 use lib.Dec.{T, eqb, ltb}
 use lib.ListN.{length, getD, drop}
@@ -13,7 +13,7 @@ follows step x (p ∷ ps) end = eqb x p && follows step (step p) ps end
 
 -- what xs holds at the first number of the list is n, at the second n + 1, ..
 unfoldable pub inverts : List ℕ → ℕ → List ℕ → Bool
-inverts xs n [] = eqb 0 0
+inverts xs n [] = true
 inverts xs n (l ∷ ls) = eqb (getD xs l 0) n && inverts xs (suc n) ls
 
 -- every number but 0 of k + 1 digits is a power; entry 0 of the logarithms is unused

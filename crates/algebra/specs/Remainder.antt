@@ -1,4 +1,5 @@
 -- Remainders by a polynomial of degree d, in a shift register. A polynomial is the number with its coefficients as digits.
+use mathlib.Core.Path.{_≡_}
 use mathlib.Core.Bool.{Bool, false, cond}
 use mathlib.Core.List.{List, [], _∷_, _++_}
 use Prim.Native.Nat.{ℕ, zero, suc, _+_, _*_, _/_, _%_, _^_}
@@ -6,7 +7,7 @@ use lib.Dec.{ltb, eqb}
 use lib.ListN.{replicate}
 use Rattle.algebra.specs.Xor.{_⊕_}
 use Rattle.algebra.specs.Tables.{num}
-use Rattle.algebra.specs.Words.{Word}
+use Rattle.algebra.specs.Words.{Word, kept}
 
 -- one more coefficient: 2 r + b, and g taken off where that reached 2^d
 unfoldable pub shift : ℕ → ℕ → ℕ → Bool → ℕ
@@ -38,3 +39,17 @@ binary (suc m) x = isOdd (x / 2 ^ m) ∷ binary m x
 -- the coefficients w, then the d that make the whole divisible by g
 unfoldable pub systematic : ℕ → ℕ → Word → Word
 systematic d g w = w ++ binary d (register d g 0 (w ++ replicate d false))
+
+-- a polynomial's coefficients w, behind those of r, as a number: 2 r + b for each
+unfoldable pub value : ℕ → Word → ℕ
+value r [] = r
+value r (b ∷ w) = value (2 * r + num b) w
+
+-- g times the polynomial with the coefficients q, by Horner's rule: twice what is there, and g where the coefficient is one
+unfoldable pub times : ℕ → ℕ → Word → ℕ
+times g a [] = a
+times g a (b ∷ q) = times g (2 * a ⊕ kept b g) q
+
+-- x is g times some polynomial
+abbrev pub Multiple : ℕ → ℕ → Type 0
+Multiple g x = (q : Word) × (x ≡ times g 0 q)

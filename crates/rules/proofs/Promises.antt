@@ -1,5 +1,6 @@
 -- The field and the word
 pub mod FieldPromise
+pub mod Codewords
 pub mod Distance
 pub mod Answers
 -- The frame, and what stands in the output

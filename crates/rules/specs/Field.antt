@@ -28,7 +28,3 @@ power e = iter e timesA 1
 -- the value at a^r of the polynomial with these exponents
 unfoldable pub valueAt : ℕ → List ℕ → ℕ
 valueAt r es = xsum (λ e. power (r * e)) es
-
--- the product of two polynomials
-unfoldable pub product : List ℕ → List ℕ → ℕ
-product es fs = xsum (λ f. poly es * 2 ^ f) fs

@@ -7,10 +7,11 @@ use lib.ListN.{getD}
 use Rattle.algebra.specs.Xor.{_⊕_}
 use Rattle.algebra.specs.Register.{iter, turn}
 use Rattle.algebra.specs.Tables.{tab, tabFrom}
+use Rattle.algebra.specs.Remainder.{binary, times}
 use Rattle.algebra.specs.Sums.{xsum}
 use Rattle.algebra.specs.Field256.{logs}
 use Rattle.algebra.proofs.Field256Laws.{powers256-at, round256, powers256-logs, logs256-lt}
-use Rattle.rules.specs.Field.{poly, minimal₁, minimal₃, timesA, power, valueAt, product}
+use Rattle.rules.specs.Field.{poly, minimal₁, minimal₃, timesA, power, valueAt}
 use Rattle.rules.specs.Words.{g}
 
 pub record FieldPromise : Type 0 where
@@ -27,14 +28,14 @@ pub record FieldPromise : Type 0 where
   -- "The minimal polynomial of a^3 is z^8+z^6+z^5+z^4+z^2+z+1."
   pub root₃ : valueAt 3 minimal₃ ≡ 0
   -- "The product of the two is g"
-  pub product-g : product minimal₁ minimal₃ ≡ g
+  pub product : times (poly minimal₁) 0 (binary 9 (poly minimal₃)) ≡ g
 
 power-is : (e : ℕ) → power e ≡ iter e (turn 7 29) 1
 unfolding power timesA poly
 power-is e = refl
 
 pub field-promise : FieldPromise
-unfolding _⊕_ iter turn tab tabFrom xsum poly minimal₁ minimal₃ timesA power valueAt product g
+unfolding _⊕_ iter turn tab tabFrom xsum poly minimal₁ minimal₃ timesA power valueAt binary times g
 field-promise =
     record {
       root₁ = refl;
@@ -44,5 +45,5 @@ field-promise =
           let e : ℕ = getD logs x 0 in
           (e, logs256-lt x lo hi, power-is e ∙ sym (powers256-at e (logs256-lt x lo hi)) ∙ powers256-logs x lo hi);
       root₃ = refl;
-      product-g = refl;
+      product = refl;
     }

@@ -1,0 +1,37 @@
+-- Codewords are what document 01 says: the polynomial is divisible by g, and the number of ones is even.
+-- Assumes nothing.
+use mathlib.Core.Path.{_≡_, sym, ap, _∙_}
+use mathlib.Core.Logic.{_↔_}
+use mathlib.Core.Bool.{true}
+use Prim.Native.Nat.{ℕ, _+_, _*_, _-_, _%_, _^_, _≤_}
+use native.Mathlib.Omega.{arith}
+use lib.ListN.{length, take}
+use Rattle.algebra.specs.Tables.{ones}
+use Rattle.algebra.specs.Words.{Word}
+use Rattle.algebra.specs.Remainder.{register, value, Multiple}
+use Rattle.algebra.proofs.DivisionLaws.{divides}
+use Rattle.rules.specs.Words.{g, remainder, checks, isCodeword}
+use Rattle.rules.proofs.Laws.CheckLaws.{low, low-small, g-low, codeword-checks, checks-codeword}
+
+-- "For j from 0 to n − 2, bit j is the coefficient of z^(n−2−j). .. the remainder that makes the polynomial divisible by g, and
+-- bit n − 1 makes the number of ones even. A codeword is any n bits for which both hold."
+abbrev pub Codewords : Type 0
+Codewords =
+    (n : ℕ) (w : Word) → (isCodeword n w ≡ true) ↔ (Multiple g (value 0 (take (n - 1) w)) × (ones w % 2 ≡ 0))
+
+-- the shift register is division by g
+remainder-divides : (n : ℕ) (w : Word) → (remainder n w ≡ 0) ↔ Multiple g (value 0 (take (n - 1) w))
+unfolding remainder
+remainder-divides n w = rw g-low (divides 15 low low-small (take (n - 1) w))
+
+pub codewords : Codewords
+unfolding checks
+codewords n w = (
+  λ h.
+      let e = codeword-checks n w h in
+      let z : remainder n w ≡ 0 = omega arith in
+      (remainder-divides n w .0 z, omega arith),
+  λ p.
+      let z : remainder n w ≡ 0 = remainder-divides n w .1 (p .0) in
+      checks-codeword n w (let o = p .1 in omega arith),
+)
