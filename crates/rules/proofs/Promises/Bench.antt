@@ -9,7 +9,7 @@ use native.Mathlib.Omega.{arith}
 use lib.ListN.{length, replicate}
 use Rattle.algebra.specs.Tables.{ones, total}
 use Rattle.algebra.specs.Words.{Word, bit}
-use Rattle.rules.specs.Words.{isCodeword, Codeword, codeword, onePlace, beyond}
+use Rattle.rules.specs.Words.{remainder, isCodeword, Codeword, codeword, onePlace, twoPlaces, beyond}
 use Rattle.rules.specs.Frames.{row}
 use Rattle.rules.specs.Bits.{rowBytes, wordOf, frameOf}
 use Rattle.rules.specs.Passes.{clean, repaired, stuck, spent}
@@ -108,13 +108,47 @@ table =
     ∷ (decode 18 2 (0x00 ∷ 0x00 ∷ 0x20 ∷ zeros 51), decodes (ended clean 0 0 0 0) (zeros 54))
     ∷ []
 
+-- every item of a table gets what stands beside it
+abbrev pub Shown : List (Asked × Got) → Type 0
+Shown items = map (λ item. got (item .0)) items ≡ map (λ item. item .1) items
+
 -- the statement
 abbrev pub Bench : Type 0
-Bench = map (λ item. got (item .0)) table ≡ map (λ item. item .1) table
+Bench = Shown table
 
 pub bench : Bench
 unfolding computing nines got table
 bench = refl
+
+-- ---- "Errors of reasoning we have met", where no item above shows them
+
+-- places 0, 8 and 13 of 32 have the remainder of places 16 and 30
+abbrev three : List ℕ
+three = 0x80 ∷ 0x84 ∷ 0x00 ∷ 0x00 ∷ []
+
+abbrev pair : List ℕ
+pair = 0x00 ∷ 0x00 ∷ 0x80 ∷ 0x02 ∷ []
+
+-- item D, and one wrong bit that pass 1 mends
+abbrev half : List ℕ
+half = 0xE0 ∷ 0 ∷ 0 ∷ 0xE0 ∷ 0 ∷ 0 ∷ 0xE0 ∷ 0 ∷ 0 ∷ zeros 21 ++ 0x00 ∷ 0x20 ∷ 0x00 ∷ zeros 21
+
+unfoldable pub errors : List (Asked × Got)
+errors =
+    -- "Fixing two located errors when the overall parity says three."
+    (word 32 three, words (answered beyond) three)
+    ∷ (word 32 pair, words (answered (twoPlaces 16 30)) (zeros 4))
+    -- "Handing out the half-mended frame when stuck."
+    ∷ (decode 18 2 half, decodes (ended stuck 2 1 3 3) half)
+    ∷ []
+
+pub record Reasoning : Type 0 where
+  pub shown : Shown errors
+  pub located : remainder 32 (wordOf 32 three 0) ≡ remainder 32 (wordOf 32 pair 0)
+
+pub reasoning : Reasoning
+unfolding computing nines got errors
+reasoning = record { shown = refl; located = refl }
 
 -- ---- The items without a star: the ranges of n, of the allowance and of the sizes
 
