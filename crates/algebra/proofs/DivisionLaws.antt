@@ -1,9 +1,9 @@
 -- A shift register leaves the remainder: a word's polynomial is a multiple of g exactly if the register ends at zero.
 -- Assumes nothing.
 use mathlib.Core.Path.{_≡_, refl, sym, ap, ap₂, _∙_}
-use mathlib.Core.Logic.{_↔_, _⊎_, inl, inr}
+use mathlib.Core.Logic.{_↔_}
 use mathlib.Core.Bool.{Bool, true, false, cond}
-use mathlib.Core.List.{List, [], _∷_, _++_}
+use mathlib.Core.List.{[], _∷_, _++_}
 use Prim.Native.Nat.{ℕ, zero, suc, _+_, _*_, _/_, _%_, _^_, _≤_, _<_}
 use native.Mathlib.Nat.{pow-suc, add-comm, zero-add, zero-mul, mod-lt, div-eq-of-lt}
 use native.Mathlib.Decide.{decLt}
@@ -16,7 +16,6 @@ use Rattle.algebra.specs.Xor.{_⊕_}
 use Rattle.algebra.specs.Tables.{num}
 use Rattle.algebra.specs.Words.{Word, _⊻_, kept}
 use Rattle.algebra.specs.Remainder.{shift, register, value, times, Multiple}
-use Rattle.algebra.proofs.Digits.{num-le}
 use Rattle.algebra.proofs.XorLaws.{⊕-zero, zero-⊕, ⊕-swap, ⊕-div, xors}
 use Rattle.algebra.proofs.RegisterLaws.{⊕-double}
 use Rattle.algebra.proofs.WordLaws.{kept-xor}

@@ -7,6 +7,7 @@ pub mod CheckLaws
 pub mod PowerSumLaws
 pub mod SearchLaws
 pub mod PatternLaws
+pub mod NearestLaws
 pub mod EncodeWordLaws
 -- Frames and passes
 pub mod FrameLaws
