@@ -25,15 +25,15 @@ abbrev pub cell : Frame → ℕ → ℕ → Bool
 cell f i j = bit (row f i) j
 
 -- columns made rows
-unfoldable pub turned : ℕ → Frame → Frame
-turned n f = tab n (λ j. tab n (λ i. cell f i j))
+unfoldable pub transposed : ℕ → Frame → Frame
+transposed n f = tab n (λ j. tab n (λ i. cell f i j))
 
 -- how many rows, and how many columns, "are not codewords"
 unfoldable pub badRows : ℕ → Frame → ℕ
 badRows n f = count n (λ i. not (isCodeword n (row f i)))
 
 unfoldable pub badColumns : ℕ → Frame → ℕ
-badColumns n f = badRows n (turned n f)
+badColumns n f = badRows n (transposed n f)
 
 -- "A frame has n rows of n bits, every row and every column a codeword."
 unfoldable pub isFrame : ℕ → Frame → Bool
@@ -45,8 +45,8 @@ corner k f = tab k (λ i. tab k (λ j. cell f i j))
 
 -- "Encoding rows first": the k rows encoded, then each of the n columns that they make
 unfoldable pub rowsFirst : ℕ → Frame → Frame
-rowsFirst n d = turned n (tab n (λ j. encodeWord (tab (dataBits n) (λ i. bit (encodeWord (row d i)) j))))
+rowsFirst n d = transposed n (tab n (λ j. encodeWord (tab (dataBits n) (λ i. bit (encodeWord (row d i)) j))))
 
 -- "or columns first": the same with rows and columns changed over
 unfoldable pub columnsFirst : ℕ → Frame → Frame
-columnsFirst n d = turned n (rowsFirst n (turned (dataBits n) d))
+columnsFirst n d = transposed n (rowsFirst n (transposed (dataBits n) d))

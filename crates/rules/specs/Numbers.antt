@@ -37,27 +37,27 @@ abbrev pub dataBytes : ℕ → ℕ
 dataBytes n = squareBytes (dataBits n)
 
 -- what a check tests, and the number that it gives
-abbrev pub CheckList : Type 0
-CheckList = List (Bool × ℕ)
+abbrev pub RefusalList : Type 0
+RefusalList = List (Bool × ℕ)
 
 -- "Checks go in order of number; the first that applies is given, and none is given otherwise."
-abbrev pub first : CheckList → ℕ
+abbrev pub first : RefusalList → ℕ
 first [] = 0
 first (check ∷ later) = pick (check .0) (check .1) (first later)
 
 -- "input length is not exactly that of n", "output length is not exact"
-abbrev pub sizeChecks : ℕ → List ℕ → ℕ → List ℕ → ℕ → CheckList → CheckList
-sizeChecks n input takes output gives later = (outside n, 1) ∷ (notLong input takes, 2) ∷ (notLong output gives, 3) ∷ later
+abbrev pub sizeRefusals : ℕ → List ℕ → ℕ → List ℕ → ℕ → RefusalList → RefusalList
+sizeRefusals n input takes output gives later = (outside n, 1) ∷ (notLong input takes, 2) ∷ (notLong output gives, 3) ∷ later
 
 -- ---- Encoding: the number, and the output
 
 -- "data has a spare bit set (encoding)"
-abbrev pub encodeChecks : ℕ → List ℕ → List ℕ → CheckList
-encodeChecks n input output =
-    sizeChecks n input (dataBytes n) output (frameBytes n) ((not (eqb (sparesSet (dataBits n) input) 0), 5) ∷ [])
+abbrev pub encodeRefusals : ℕ → List ℕ → List ℕ → RefusalList
+encodeRefusals n input output =
+    sizeRefusals n input (dataBytes n) output (frameBytes n) ((not (eqb (sparesSet (dataBits n) input) 0), 5) ∷ [])
 
 unfoldable pub encodeNumber : ℕ → List ℕ → List ℕ → ℕ
-encodeNumber n input output = first (encodeChecks n input output)
+encodeNumber n input output = first (encodeRefusals n input output)
 
 -- "The encoder writes spare bits as zero and refuses data in which one is set."
 unfoldable pub encodeOutput : ℕ → List ℕ → List ℕ → List ℕ
@@ -67,12 +67,12 @@ encodeOutput n input output =
 -- ---- Reading data: the number, and the output
 
 -- "not a frame of codewords, code bits only (reading data)"
-abbrev pub readChecks : ℕ → List ℕ → List ℕ → CheckList
-readChecks n input output =
-    sizeChecks n input (frameBytes n) output (dataBytes n) ((not (isFrame n (frameOf n input)), 6) ∷ [])
+abbrev pub readRefusals : ℕ → List ℕ → List ℕ → RefusalList
+readRefusals n input output =
+    sizeRefusals n input (frameBytes n) output (dataBytes n) ((not (isFrame n (frameOf n input)), 6) ∷ [])
 
 unfoldable pub readNumber : ℕ → List ℕ → List ℕ → ℕ
-readNumber n input output = first (readChecks n input output)
+readNumber n input output = first (readRefusals n input output)
 
 -- "Reading data takes no notice of the frame's spare bits and writes the data's as zero."
 unfoldable pub readOutput : ℕ → List ℕ → List ℕ → List ℕ
@@ -86,12 +86,12 @@ pub data Decoded : Type 0 where
   -- passes, flips, rows, columns
   ended : Ending → ℕ → ℕ → ℕ → ℕ → Decoded
 
-abbrev pub decodeChecks : ℕ → ℕ → List ℕ → List ℕ → CheckList
-decodeChecks n allowance input output =
-    sizeChecks n input (frameBytes n) output (frameBytes n) ((notAllowed allowance, 4) ∷ [])
+abbrev pub decodeRefusals : ℕ → ℕ → List ℕ → List ℕ → RefusalList
+decodeRefusals n allowance input output =
+    sizeRefusals n input (frameBytes n) output (frameBytes n) ((notAllowed allowance, 4) ∷ [])
 
 unfoldable pub decodeRefusal : ℕ → ℕ → List ℕ → List ℕ → ℕ
-decodeRefusal n allowance input output = first (decodeChecks n allowance input output)
+decodeRefusal n allowance input output = first (decodeRefusals n allowance input output)
 
 -- what is said of an outcome: all but its frame
 abbrev pub told : Outcome → Decoded
@@ -141,11 +141,11 @@ pub data WordSaid : Type 0 where
   wordRefused : ℕ → WordSaid
   answered : Answer → WordSaid
 
-abbrev pub wordChecks : ℕ → List ℕ → List ℕ → CheckList
-wordChecks n input output = sizeChecks n input (rowBytes n) output (rowBytes n) []
+abbrev pub wordRefusals : ℕ → List ℕ → List ℕ → RefusalList
+wordRefusals n input output = sizeRefusals n input (rowBytes n) output (rowBytes n) []
 
 unfoldable pub wordRefusal : ℕ → List ℕ → List ℕ → ℕ
-wordRefusal n input output = first (wordChecks n input output)
+wordRefusal n input output = first (wordRefusals n input output)
 
 unfoldable pub wordSaid : ℕ → List ℕ → List ℕ → WordSaid
 wordSaid n input output =

@@ -6,14 +6,14 @@ use Rattle.algebra.specs.Tables.{tab, total}
 use Rattle.algebra.specs.Words.{differ}
 use Rattle.algebra.specs.Remainder.{isOdd}
 use Rattle.rules.specs.Words.{mend}
-use Rattle.rules.specs.Frames.{Frame, row, turned, badRows, badColumns, isFrame}
+use Rattle.rules.specs.Frames.{Frame, row, transposed, badRows, badColumns, isFrame}
 
 -- "In a pass each word that has a codeword within two is replaced by it; each other word is left."
 unfoldable pub passRows : ℕ → Frame → Frame
 passRows n f = tab n (λ i. mend n (row f i))
 
 unfoldable pub passColumns : ℕ → Frame → Frame
-passColumns n f = turned n (passRows n (turned n f))
+passColumns n f = transposed n (passRows n (transposed n f))
 
 -- "pass 1 decodes every row, pass 2 every column, and so on in turn"
 unfoldable pub pass : ℕ → ℕ → Frame → Frame

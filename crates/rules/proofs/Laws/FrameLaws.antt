@@ -7,8 +7,8 @@ use native.Mathlib.Omega.{arith}
 use borrow.Author.Tests.{eqb-true, eq-eqb, not-false}
 use Rattle.algebra.proofs.TableLaws.{count-zero, zero-count}
 use Rattle.rules.specs.Words.{isCodeword}
-use Rattle.rules.specs.Frames.{Frame, row, turned, badRows, badColumns, isFrame}
-use Rattle.rules.proofs.Laws.Shape.{Square, turned-twice}
+use Rattle.rules.specs.Frames.{Frame, row, transposed, badRows, badColumns, isFrame}
+use Rattle.rules.proofs.Laws.Shape.{Square, transposed-twice}
 
 -- every row is a codeword
 abbrev pub Rows : ℕ → Frame → Type 0
@@ -27,16 +27,16 @@ pub frame-rows : (n : ℕ) (f : Frame) → isFrame n f ≡ true → Rows n f
 unfolding isFrame
 frame-rows n f h = rows-none n f (let e = eqb-true (badRows n f + badColumns n f) 0 h in omega arith)
 
-pub frame-columns : (n : ℕ) (f : Frame) → isFrame n f ≡ true → Rows n (turned n f)
+pub frame-columns : (n : ℕ) (f : Frame) → isFrame n f ≡ true → Rows n (transposed n f)
 unfolding isFrame badColumns
-frame-columns n f h = rows-none n (turned n f) (let e = eqb-true (badRows n f + badColumns n f) 0 h in omega arith)
+frame-columns n f h = rows-none n (transposed n f) (let e = eqb-true (badRows n f + badColumns n f) 0 h in omega arith)
 
-pub rows-columns-frame : (n : ℕ) (f : Frame) → Rows n f → Rows n (turned n f) → isFrame n f ≡ true
+pub rows-columns-frame : (n : ℕ) (f : Frame) → Rows n f → Rows n (transposed n f) → isFrame n f ≡ true
 unfolding isFrame badColumns
 rows-columns-frame n f hr hc =
-    eq-eqb (badRows n f + badRows n (turned n f)) 0 (ap₂ _+_ (none-rows n f hr) (none-rows n (turned n f) hc))
+    eq-eqb (badRows n f + badRows n (transposed n f)) 0 (ap₂ _+_ (none-rows n f hr) (none-rows n (transposed n f) hc))
 
 -- rows and columns changed over
-pub frame-turned : (n : ℕ) (f : Frame) → Square n f → isFrame n f ≡ true → isFrame n (turned n f) ≡ true
-frame-turned n f s h =
-    rows-columns-frame n (turned n f) (frame-columns n f h) (rw (turned-twice n f s) (frame-rows n f h))
+pub frame-transposed : (n : ℕ) (f : Frame) → Square n f → isFrame n f ≡ true → isFrame n (transposed n f) ≡ true
+frame-transposed n f s h =
+    rows-columns-frame n (transposed n f) (frame-columns n f h) (rw (transposed-twice n f s) (frame-rows n f h))

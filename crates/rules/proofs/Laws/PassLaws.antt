@@ -8,7 +8,7 @@ use Rattle.algebra.specs.Words.{Word}
 use Rattle.algebra.specs.Remainder.{isOdd}
 use Rattle.algebra.proofs.TableLaws.{tab-length}
 use Rattle.rules.specs.Words.{answer, places, mend}
-use Rattle.rules.specs.Frames.{Frame, Square, row, turned, isFrame}
+use Rattle.rules.specs.Frames.{Frame, Square, row, transposed, isFrame}
 use Rattle.rules.specs.Passes.{
   passRows,
   passColumns,
@@ -26,7 +26,7 @@ use Rattle.rules.specs.Passes.{
   passesFrom,
   decoded,
 }
-use Rattle.rules.proofs.Laws.Shape.{row-tab, turned-square}
+use Rattle.rules.proofs.Laws.Shape.{row-tab, transposed-square}
 use Rattle.rules.proofs.Laws.PatternLaws.{changed-length}
 
 -- ---- the start
@@ -132,4 +132,4 @@ pass-square n p f s = go (isOdd p)
   where
     go : (b : Bool) → Square n (cond b (passRows n f) (passColumns n f))
     go true = passRows-square n f s
-    go false = turned-square n (passRows n (turned n f))
+    go false = transposed-square n (passRows n (transposed n f))

@@ -17,8 +17,8 @@ use Rattle.algebra.proofs.XorLaws.{zero-⊕, ⊕-div, ⊕-digit, ⊕-self}
 use Rattle.algebra.proofs.TableLaws.{tab-length, tab-ext, zero-count}
 use Rattle.algebra.proofs.WordLaws.{⊻-length, ⊻-bit, dot-none}
 use Rattle.rules.specs.Words.{dataBits, checks, isCodeword, values}
-use Rattle.rules.specs.Frames.{Frame, row, cell, turned}
-use Rattle.rules.proofs.Laws.Shape.{Square, word-ext, bit-tab, turned-row}
+use Rattle.rules.specs.Frames.{Frame, row, cell, transposed}
+use Rattle.rules.proofs.Laws.Shape.{Square, word-ext, bit-tab, transposed-row}
 use Rattle.rules.proofs.Laws.BitLaws.{same-digits}
 use Rattle.rules.proofs.Laws.CheckLaws.{checks-dot, checks-⊻, codeword-checks, checks-codeword, values-length}
 use Rattle.rules.proofs.Laws.FrameLaws.{Rows}
@@ -117,7 +117,7 @@ module _ (n : ℕ) (pos : 1 ≤ n) where
       (λ j hj. zero-ext (λ i. bit (r i) (suc j)) (λ i. bit (drop 1 (r i)) j) (λ i hi. sym (bit-drop (r i) j)) (h (suc j) (omega arith)))))
 
 pub rows-carry :
-    (n : ℕ) (f : Frame) → 18 ≤ n → Square n f → Rows n (turned n f) → ((i : ℕ) → i < dataBits n → isCodeword n (row f i) ≡ true)
+    (n : ℕ) (f : Frame) → 18 ≤ n → Square n f → Rows n (transposed n f) → ((i : ℕ) → i < dataBits n → isCodeword n (row f i) ≡ true)
     → Rows n f
 unfolding Zero
 rows-carry n f h s columns rows i hi =
@@ -132,7 +132,7 @@ rows-carry n f h s columns rows i hi =
     column : (j : ℕ) → j < length (values n) → Zero n pos (λ i. cell f i j)
     column j hj =
         let hn : j < n = omega (arith, long) in
-        ap (checks n) (sym (turned-row n f j hn)) ∙ codeword-checks n (row (turned n f) j) (columns j hn)
+        ap (checks n) (sym (transposed-row n f j hn)) ∙ codeword-checks n (row (transposed n f) j) (columns j hn)
 
     none : (b : ℕ) → digit b (dot (values n) (row f i)) ≡ false
     none b =

@@ -10,7 +10,7 @@ use lib.Seq.{ext-getD}
 use Rattle.algebra.specs.Tables.{tab}
 use Rattle.algebra.specs.Words.{Word, bit}
 use Rattle.algebra.proofs.TableLaws.{tab-length, tab-at}
-use Rattle.rules.specs.Frames.{Frame, row, cell, turned, corner}
+use Rattle.rules.specs.Frames.{Frame, row, cell, transposed, corner}
 pub use Rattle.rules.specs.Frames.{Square}
 use Rattle.rules.specs.Bits.{stride, bitAt, wordOf, frameOf}
 
@@ -51,25 +51,25 @@ pub cell-tab : (n : ℕ) (c : ℕ → ℕ → Bool) (i j : ℕ) → i < n → j 
 cell-tab n c i j hi hj =
     ap (λ (w : Word). bit w j) (row-tab n (λ i. tab n (λ j. c i j)) i hi) ∙ bit-tab n (λ j. c i j) j hj
 
--- ---- turned
+-- ---- transposed
 
-pub turned-square : (n : ℕ) (f : Frame) → Square n (turned n f)
-unfolding turned
-turned-square n f = square-tab n (λ j i. cell f i j)
+pub transposed-square : (n : ℕ) (f : Frame) → Square n (transposed n f)
+unfolding transposed
+transposed-square n f = square-tab n (λ j i. cell f i j)
 
-pub turned-cell : (n : ℕ) (f : Frame) (i j : ℕ) → i < n → j < n → cell (turned n f) i j ≡ cell f j i
-unfolding turned
-turned-cell n f i j hi hj = cell-tab n (λ j i. cell f i j) i j hi hj
+pub transposed-cell : (n : ℕ) (f : Frame) (i j : ℕ) → i < n → j < n → cell (transposed n f) i j ≡ cell f j i
+unfolding transposed
+transposed-cell n f i j hi hj = cell-tab n (λ j i. cell f i j) i j hi hj
 
 -- column i as a word
-pub turned-row : (n : ℕ) (f : Frame) (i : ℕ) → i < n → row (turned n f) i ≡ tab n (λ j. cell f j i)
-unfolding turned
-turned-row n f i h = row-tab n (λ j. tab n (λ i. cell f i j)) i h
+pub transposed-row : (n : ℕ) (f : Frame) (i : ℕ) → i < n → row (transposed n f) i ≡ tab n (λ j. cell f j i)
+unfolding transposed
+transposed-row n f i h = row-tab n (λ j. tab n (λ i. cell f i j)) i h
 
-pub turned-twice : (n : ℕ) (f : Frame) → Square n f → turned n (turned n f) ≡ f
-turned-twice n f s =
-    square-ext n (turned n (turned n f)) f (turned-square n (turned n f)) s
-    (λ i j hi hj. turned-cell n (turned n f) i j hi hj ∙ turned-cell n f j i hj hi)
+pub transposed-twice : (n : ℕ) (f : Frame) → Square n f → transposed n (transposed n f) ≡ f
+transposed-twice n f s =
+    square-ext n (transposed n (transposed n f)) f (transposed-square n (transposed n f)) s
+    (λ i j hi hj. transposed-cell n (transposed n f) i j hi hj ∙ transposed-cell n f j i hj hi)
 
 -- ---- corner
 

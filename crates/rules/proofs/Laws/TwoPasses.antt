@@ -17,10 +17,10 @@ use Rattle.algebra.proofs.Digits.{num-le}
 use Rattle.algebra.proofs.TableLaws.{tab-zero, tab-suc, tab-at, tab-is, count-mono, count-ext, count-total, zero-count, total-mono, total-add}
 use Rattle.algebra.proofs.WordLaws.{xor-self, differ-self}
 use Rattle.rules.specs.Words.{isIn}
-use Rattle.rules.specs.Frames.{Frame, row, cell, turned}
+use Rattle.rules.specs.Frames.{Frame, row, cell, transposed}
 use Rattle.rules.specs.Passes.{differences}
 use Rattle.rules.specs.Damage.{spoilt}
-use Rattle.rules.proofs.Laws.Shape.{Square, turned-square, turned-row, turned-twice}
+use Rattle.rules.proofs.Laws.Shape.{Square, transposed-square, transposed-row, transposed-twice}
 
 -- two tables differ where their rules do
 differ-tab : (n : ℕ) (p q : ℕ → Bool) → differ (tab n p) (tab n q) ≡ count n (λ i. xor (p i) (q i))
@@ -75,27 +75,27 @@ module _
 
       -- so a column has at most as many wrong bits as there are spoilt rows
       column-wrong :
-          (j : ℕ) → j < n → differ (row (turned n f) j) (row (turned n (rowsMended n mend h)) j) ≤ spoilt t n f h
+          (j : ℕ) → j < n → differ (row (transposed n f) j) (row (transposed n (rowsMended n mend h)) j) ≤ spoilt t n f h
       unfolding spoilt
       column-wrong j l =
-          rw (turned-row n f j l, turned-row n (rowsMended n mend h) j l, differ-tab n (λ i. cell f i j) (λ i. cell (rowsMended n mend h) i j))
+          rw (transposed-row n f j l, transposed-row n (rowsMended n mend h) j l, differ-tab n (λ i. cell f i j) (λ i. cell (rowsMended n mend h) i j))
           (count-mono n (λ i. xor (cell f i j) (cell (rowsMended n mend h) i j)) (λ i. leb (suc t) (differ (row f i) (row h i)))
           (λ i k. wrong-lies i j k))
 
       pub two-passes :
-          AllCode (turned n f) → spoilt t n f h ≤ t
-          → turned n (rowsMended n mend (turned n (rowsMended n mend h))) ≡ f
+          AllCode (transposed n f) → spoilt t n f h ≤ t
+          → transposed n (rowsMended n mend (transposed n (rowsMended n mend h))) ≡ f
       unfolding rowsMended row
       two-passes columns few =
           let h₁ : Frame = rowsMended n mend h in
-          let st = turned-square n f in
-          let sh₁ = turned-square n h₁ in
-          ap (turned n)
-          (tab-is n (λ j. mend (row (turned n h₁) j)) (turned n f) [] (st .0)
+          let st = transposed-square n f in
+          let sh₁ = transposed-square n h₁ in
+          ap (transposed n)
+          (tab-is n (λ j. mend (row (transposed n h₁) j)) (transposed n f) [] (st .0)
           (λ j l.
-          mends (row (turned n f) j) (row (turned n h₁) j) (st .1 j l) (sh₁ .1 j l) (columns j l)
+          mends (row (transposed n f) j) (row (transposed n h₁) j) (st .1 j l) (sh₁ .1 j l) (columns j l)
           (let d = column-wrong j l in omega arith)))
-          ∙ turned-twice n f sf
+          ∙ transposed-twice n f sf
 
 -- ---- damage that is few in every row but t
 

@@ -9,9 +9,9 @@ use Rattle.algebra.specs.Tables.{tab}
 use Rattle.algebra.specs.Words.{Word, bit}
 use Rattle.algebra.proofs.TableLaws.{tab-length}
 use Rattle.rules.specs.Words.{dataBits, encodeWord}
-use Rattle.rules.specs.Frames.{Frame, row, cell, turned, isFrame, corner, rowsFirst, columnsFirst}
-use Rattle.rules.proofs.Laws.Shape.{Square, word-ext, square-ext, bit-tab, row-tab, turned-square, turned-cell, turned-twice, corner-square, corner-cell}
-use Rattle.rules.proofs.Laws.FrameLaws.{Rows, frame-rows, frame-columns, rows-columns-frame, frame-turned}
+use Rattle.rules.specs.Frames.{Frame, row, cell, transposed, isFrame, corner, rowsFirst, columnsFirst}
+use Rattle.rules.proofs.Laws.Shape.{Square, word-ext, square-ext, bit-tab, row-tab, transposed-square, transposed-cell, transposed-twice, corner-square, corner-cell}
+use Rattle.rules.proofs.Laws.FrameLaws.{Rows, frame-rows, frame-columns, rows-columns-frame, frame-transposed}
 use Rattle.rules.proofs.Laws.EncodeWordLaws.{encode-length, encode-data, encode-codeword, codeword-unique}
 use Rattle.rules.proofs.Laws.ProductLaws.{rows-carry}
 
@@ -46,24 +46,24 @@ pub frame-unique :
     (n : ℕ) (f h : Frame) → 18 ≤ n → Square n f → Square n h → isFrame n f ≡ true → isFrame n h ≡ true
     → corner (dataBits n) f ≡ corner (dataBits n) h → f ≡ h
 frame-unique n f h le sf sh ff fh e =
-    sym (turned-twice n f sf)
-    ∙ ap (turned n)
-    (rows-unique n (turned n f) (turned n h) le (turned-square n f) (turned-square n h) (frame-columns n f ff) (frame-columns n h fh) upper)
-    ∙ turned-twice n h sh
+    sym (transposed-twice n f sf)
+    ∙ ap (transposed n)
+    (rows-unique n (transposed n f) (transposed n h) le (transposed-square n f) (transposed-square n h) (frame-columns n f ff) (frame-columns n h fh) upper)
+    ∙ transposed-twice n h sh
   where
     data-cell : (i j : ℕ) → i < dataBits n → j < dataBits n → cell f i j ≡ cell h i j
     data-cell i j hi hj =
         sym (corner-cell (dataBits n) f i j hi hj) ∙ ap (λ (x : Frame). cell x i j) e ∙ corner-cell (dataBits n) h i j hi hj
 
     -- the first k rows agree
-    upper : (j i : ℕ) → j < n → i < dataBits n → cell (turned n f) j i ≡ cell (turned n h) j i
+    upper : (j i : ℕ) → j < n → i < dataBits n → cell (transposed n f) j i ≡ cell (transposed n h) j i
     upper j i hj hi =
         let hn : i < n = omega arith in
-        turned-cell n f j i hj hn
+        transposed-cell n f j i hj hn
         ∙ ap (λ (w : Word). bit w j)
         (codeword-unique n (row f i) (row h i) le (sf .1 i hn) (sh .1 i hn) (frame-rows n f ff i hn) (frame-rows n h fh i hn)
         (λ j hj. data-cell i j hi hj))
-        ∙ sym (turned-cell n h j i hj hn)
+        ∙ sym (transposed-cell n h j i hj hn)
 
 -- ---- rows first
 
@@ -90,16 +90,16 @@ module _ (n : ℕ) (d : Frame) (le : 18 ≤ n) (s : Square (dataBits n) d) where
     λ j hj. ap length (columns-row j hj) ∙ encode-length n (above j) le (above-length j),
   )
 
-  rowsFirst-is : rowsFirst n d ≡ turned n columns
+  rowsFirst-is : rowsFirst n d ≡ transposed n columns
   unfolding rowsFirst columns above
   rowsFirst-is = refl
 
   rowsFirst-square : Square n (rowsFirst n d)
-  rowsFirst-square = rw rowsFirst-is (turned-square n columns)
+  rowsFirst-square = rw rowsFirst-is (transposed-square n columns)
 
-  columns-codewords : Rows n (turned n (rowsFirst n d))
+  columns-codewords : Rows n (transposed n (rowsFirst n d))
   columns-codewords j hj =
-      rw (rowsFirst-is, turned-twice n columns columns-square, columns-row j hj) (encode-codeword n (above j) le (above-length j))
+      rw (rowsFirst-is, transposed-twice n columns columns-square, columns-row j hj) (encode-codeword n (above j) le (above-length j))
 
   row-length : (i : ℕ) → i < dataBits n → length (encodeWord (row d i)) ≡ n
   row-length i hi = encode-length n (row d i) le (s .1 i hi)
@@ -111,7 +111,7 @@ module _ (n : ℕ) (d : Frame) (le : 18 ≤ n) (s : Square (dataBits n) d) where
       let hn : i < n = omega arith in
       word-ext n (row (rowsFirst n d) i) (encodeWord (row d i)) (rowsFirst-square .1 i hn) (row-length i hi)
       (λ j hj.
-      ap (λ (f : Frame). cell f i j) rowsFirst-is ∙ turned-cell n columns i j hn hj
+      ap (λ (f : Frame). cell f i j) rowsFirst-is ∙ transposed-cell n columns i j hn hj
       ∙ ap (λ (w : Word). bit w i) (columns-row j hj)
       ∙ encode-data (above j) i (omega (arith, above-length j))
       ∙ bit-tab (dataBits n) (λ i. bit (encodeWord (row d i)) j) i hi)
@@ -133,25 +133,25 @@ module _ (n : ℕ) (d : Frame) (le : 18 ≤ n) (s : Square (dataBits n) d) where
   rowsFirst-only : (f : Frame) → Square n f → isFrame n f ≡ true → corner (dataBits n) f ≡ d → f ≡ rowsFirst n d
   rowsFirst-only f sf ff e = frame-unique n f (rowsFirst n d) le sf rowsFirst-square ff rowsFirst-frame (e ∙ sym rowsFirst-holds)
 
--- a frame turned holds its data turned
-corner-turned :
-    (n : ℕ) (f d : Frame) → Square (dataBits n) d → corner (dataBits n) f ≡ turned (dataBits n) d
-    → corner (dataBits n) (turned n f) ≡ d
-corner-turned n f d s e =
-    square-ext (dataBits n) (corner (dataBits n) (turned n f)) d (corner-square (dataBits n) (turned n f)) s
+-- a frame transposed holds its data transposed
+corner-transposed :
+    (n : ℕ) (f d : Frame) → Square (dataBits n) d → corner (dataBits n) f ≡ transposed (dataBits n) d
+    → corner (dataBits n) (transposed n f) ≡ d
+corner-transposed n f d s e =
+    square-ext (dataBits n) (corner (dataBits n) (transposed n f)) d (corner-square (dataBits n) (transposed n f)) s
     (λ i j hi hj.
-    corner-cell (dataBits n) (turned n f) i j hi hj ∙ turned-cell n f i j (omega arith) (omega arith)
-    ∙ sym (corner-cell (dataBits n) f j i hj hi) ∙ ap (λ (x : Frame). cell x j i) e ∙ turned-cell (dataBits n) d j i hj hi)
+    corner-cell (dataBits n) (transposed n f) i j hi hj ∙ transposed-cell n f i j (omega arith) (omega arith)
+    ∙ sym (corner-cell (dataBits n) f j i hj hi) ∙ ap (λ (x : Frame). cell x j i) e ∙ transposed-cell (dataBits n) d j i hj hi)
 
 columns-order : (n : ℕ) (d : Frame) → 18 ≤ n → Square (dataBits n) d → columnsFirst n d ≡ rowsFirst n d
 unfolding columnsFirst
 columns-order n d le s =
-    let t : Frame = turned (dataBits n) d in
-    let st : Square (dataBits n) t = turned-square (dataBits n) d in
+    let t : Frame = transposed (dataBits n) d in
+    let st : Square (dataBits n) t = transposed-square (dataBits n) d in
     let f : Frame = rowsFirst n t in
-    rowsFirst-only n d le s (turned n f) (turned-square n f)
-    (frame-turned n f (rowsFirst-square n t le st) (rowsFirst-frame n t le st))
-    (corner-turned n f d s (rowsFirst-holds n t le st))
+    rowsFirst-only n d le s (transposed n f) (transposed-square n f)
+    (frame-transposed n f (rowsFirst-square n t le st) (rowsFirst-frame n t le st))
+    (corner-transposed n f d s (rowsFirst-holds n t le st))
 
 pub encoding : Encodes
 encoding n d le s = record {

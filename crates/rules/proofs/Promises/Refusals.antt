@@ -16,13 +16,13 @@ use Rattle.rules.specs.Words.{dataBits, Answer, codeword, onePlace, twoP
 use Rattle.rules.specs.Frames.{Frame, isFrame, corner, rowsFirst}
 use Rattle.rules.specs.Bits.{rowBytes, wordOf, frameOf, wordBytes, bytesOf, sparesSet}
 use Rattle.rules.specs.Passes.{Ending, clean, repaired, stuck, spent, Outcome, decoded}
-use Rattle.rules.specs.Numbers.{pick, outside, notLong, notAllowed, dataBytes, frameBytes, encodeNumber, encodeOutput, readNumber, readOutput, refused, told, handedOut, decodeRefusal, decodeSaid, decodeOutput, endingNumber, number, wordRefused, answered, wordRefusal, wordSaid, wordNumber, wordOutput, CheckList, first, encodeChecks, readChecks, decodeChecks, wordChecks, rowRefused, rowPart}
+use Rattle.rules.specs.Numbers.{pick, outside, notLong, notAllowed, dataBytes, frameBytes, encodeNumber, encodeOutput, readNumber, readOutput, refused, told, handedOut, decodeRefusal, decodeSaid, decodeOutput, endingNumber, number, wordRefused, answered, wordRefusal, wordSaid, wordNumber, wordOutput, RefusalList, first, encodeRefusals, readRefusals, decodeRefusals, wordRefusals, rowRefused, rowPart}
 use Rattle.rules.proofs.Laws.PackLaws.{bytesOf-length, wordBytes-length}
 use Rattle.rules.proofs.Laws.NumberLaws.{range-test, equal-test, checked-in, last-in, encode-accepts, read-accepts, decode-accepts, word-accepts, at-zero, at-other, at-either}
 use Rattle.rules.proofs.Laws.OneOfLaws.{OneOf, one-of-cons, one-of-back, one-of-front, allIn, one-of-range}
 
 -- the table's rows for one entry point: the number given, and what the output holds then
-pub record Table (refusals endings : List ℕ) (given : ℕ) (accepted input output out : List ℕ) : Type 0 where
+pub record NumberTable (refusals endings : List ℕ) (given : ℕ) (accepted input output out : List ℕ) : Type 0 where
   pub one : OneOf given (0 ∷ refusals ++ endings)
   -- "the frame, data or word"
   pub done : given ≡ 0 → out ≡ accepted
@@ -37,47 +37,47 @@ abbrev pub GoodRow : ℕ → List ℕ → ℕ → Type 0
 GoodRow n input i = (18 ≤ n) × (n ≤ 256) × (length input ≡ frameBytes n) × (i < n)
 
 -- the bytes of row i
-abbrev pub part : ℕ → List ℕ → ℕ → List ℕ
-part n input i = take (rowBytes n) (drop (i * rowBytes n) input)
+abbrev pub rowOfBytes : ℕ → List ℕ → ℕ → List ℕ
+rowOfBytes n input i = take (rowBytes n) (drop (i * rowBytes n) input)
 
 -- the numbers of some checks
-abbrev pub numbers : CheckList → List ℕ
+abbrev pub numbers : RefusalList → List ℕ
 numbers checks = map (λ check. check .1) checks
 
 -- r is the number of the first check that applies, or 0 where none does
-abbrev pub Given : CheckList → ℕ → Type 0
+abbrev pub Given : RefusalList → ℕ → Type 0
 Given [] r = r ≡ 0
 Given (check ∷ later) r = ((check .0 ≡ true) × (r ≡ check .1)) ⊎ ((check .0 ≡ false) × Given later r)
 
 pub record Refuses : Type 0 where
   pub encode :
       (n : ℕ) (input output : List ℕ)
-      → Table (1 ∷ 2 ∷ 3 ∷ 5 ∷ []) [] (encodeNumber n input output) (bytesOf n (rowsFirst n (frameOf (dataBits n) input))) input output
+      → NumberTable (1 ∷ 2 ∷ 3 ∷ 5 ∷ []) [] (encodeNumber n input output) (bytesOf n (rowsFirst n (frameOf (dataBits n) input))) input output
       (encodeOutput n input output)
   pub read :
       (n : ℕ) (input output : List ℕ)
-      → Table (1 ∷ 2 ∷ 3 ∷ 6 ∷ []) [] (readNumber n input output) (bytesOf (dataBits n) (corner (dataBits n) (frameOf n input))) input output
+      → NumberTable (1 ∷ 2 ∷ 3 ∷ 6 ∷ []) [] (readNumber n input output) (bytesOf (dataBits n) (corner (dataBits n) (frameOf n input))) input output
       (readOutput n input output)
   pub decode :
       (n allowance : ℕ) (input output : List ℕ)
-      → Table (1 ∷ 2 ∷ 3 ∷ 4 ∷ []) (7 ∷ 8 ∷ []) (number (decodeSaid n allowance input output))
+      → NumberTable (1 ∷ 2 ∷ 3 ∷ 4 ∷ []) (7 ∷ 8 ∷ []) (number (decodeSaid n allowance input output))
       (bytesOf n (decoded n allowance (frameOf n input) .last)) input output (decodeOutput n allowance input output)
   pub word :
       (n : ℕ) (input output : List ℕ)
-      → Table (1 ∷ 2 ∷ 3 ∷ []) (9 ∷ []) (wordNumber (wordSaid n input output)) (wordBytes n (mend n (wordOf n input 0))) input output
+      → NumberTable (1 ∷ 2 ∷ 3 ∷ []) (9 ∷ []) (wordNumber (wordSaid n input output)) (wordBytes n (mend n (wordOf n input 0))) input output
       (wordOutput n input output)
   pub row :
       (n : ℕ) (input : List ℕ) (i : ℕ)
-      → (GoodRow n input i → (rowPart n input i ≡ part n input i) × (length (part n input i) ≡ rowBytes n) × (3 ≤ rowBytes n))
+      → (GoodRow n input i → (rowPart n input i ≡ rowOfBytes n input i) × (length (rowOfBytes n input i) ≡ rowBytes n) × (3 ≤ rowBytes n))
       × (¬ GoodRow n input i → rowPart n input i ≡ [])
   -- "Checks go in order of number; the first that applies is given"
   pub order :
       (n allowance : ℕ) (input output : List ℕ)
-      → (numbers (encodeChecks n input output) ≡ 1 ∷ 2 ∷ 3 ∷ 5 ∷ [])
-      × (numbers (readChecks n input output) ≡ 1 ∷ 2 ∷ 3 ∷ 6 ∷ [])
-      × (numbers (decodeChecks n allowance input output) ≡ 1 ∷ 2 ∷ 3 ∷ 4 ∷ [])
-      × (numbers (wordChecks n input output) ≡ 1 ∷ 2 ∷ 3 ∷ [])
-  pub applies : (checks : CheckList) → Given checks (first checks)
+      → (numbers (encodeRefusals n input output) ≡ 1 ∷ 2 ∷ 3 ∷ 5 ∷ [])
+      × (numbers (readRefusals n input output) ≡ 1 ∷ 2 ∷ 3 ∷ 6 ∷ [])
+      × (numbers (decodeRefusals n allowance input output) ≡ 1 ∷ 2 ∷ 3 ∷ 4 ∷ [])
+      × (numbers (wordRefusals n input output) ≡ 1 ∷ 2 ∷ 3 ∷ [])
+  pub applies : (checks : RefusalList) → Given checks (first checks)
 
 -- ---- the table, from the number of the refusal and that of the ending
 
@@ -109,10 +109,10 @@ module _ (refusals endings : List ℕ) (low : allIn 1 6 refusals ≡ true) (high
       (r e given : ℕ) (inner accepted input output : List ℕ) → given ≡ pick (eqb r 0) e r
       → OneOf r (0 ∷ refusals) → OneOf e (0 ∷ endings) → (r ≡ 0 → inner ≡ pick (eqb e 0) accepted input)
       → (r ≡ 0 → (length accepted ≡ length output) × (e ≢ 0 → length input ≡ length output))
-      → Table refusals endings given accepted input output (pick (eqb r 0) inner output)
+      → NumberTable refusals endings given accepted input output (pick (eqb r 0) inner output)
   table r e given inner accepted input output is hr he hi hl = go (ℕ-discrete r 0)
     where
-      go : Dec (r ≡ 0) → Table refusals endings given accepted input output (pick (eqb r 0) inner output)
+      go : Dec (r ≡ 0) → NumberTable refusals endings given accepted input output (pick (eqb r 0) inner output)
       go (yes z) =
           let g : given ≡ e = is ∙ at-zero r e r z in
           let o : pick (eqb r 0) inner output ≡ pick (eqb e 0) accepted input = at-zero r inner output z ∙ hi z in
@@ -142,7 +142,7 @@ module _ (refusals endings : List ℕ) (low : allIn 1 6 refusals ≡ true) (high
 
 plain :
     (refusals : List ℕ) → allIn 1 6 refusals ≡ true → (r : ℕ) (accepted input output : List ℕ) → OneOf r (0 ∷ refusals)
-    → (r ≡ 0 → length accepted ≡ length output) → Table refusals [] r accepted input output (pick (eqb r 0) accepted output)
+    → (r ≡ 0 → length accepted ≡ length output) → NumberTable refusals [] r accepted input output (pick (eqb r 0) accepted output)
 unfolding isIn allIn
 plain refusals low r accepted input output hr hl =
     table refusals [] low refl r 0 r accepted accepted input output (at-either (λ x. r ≡ x) r 0 r (λ z. z) (λ z. refl)) hr refl (λ z. refl)
@@ -173,7 +173,7 @@ pick-ap f false x y = refl
 
 decode-table :
     (n allowance : ℕ) (input output : List ℕ)
-    → Table (1 ∷ 2 ∷ 3 ∷ 4 ∷ []) (7 ∷ 8 ∷ []) (number (decodeSaid n allowance input output))
+    → NumberTable (1 ∷ 2 ∷ 3 ∷ 4 ∷ []) (7 ∷ 8 ∷ []) (number (decodeSaid n allowance input output))
     (bytesOf n (decoded n allowance (frameOf n input) .last)) input output (decodeOutput n allowance input output)
 unfolding decodeRefusal decodeSaid decodeOutput allIn
 decode-table n allowance input output =
@@ -202,7 +202,7 @@ answer-in beyond = refl
 
 word-table :
     (n : ℕ) (input output : List ℕ)
-    → Table (1 ∷ 2 ∷ 3 ∷ []) (9 ∷ []) (wordNumber (wordSaid n input output)) (wordBytes n (mend n (wordOf n input 0))) input output
+    → NumberTable (1 ∷ 2 ∷ 3 ∷ []) (9 ∷ []) (wordNumber (wordSaid n input output)) (wordBytes n (mend n (wordOf n input 0))) input output
     (wordOutput n input output)
 unfolding wordSaid wordOutput allIn
 word-table n input output =
@@ -248,23 +248,23 @@ row-test n input i = (
 
 row-good :
     (n : ℕ) (input : List ℕ) (i : ℕ) → GoodRow n input i
-    → (rowPart n input i ≡ part n input i) × (length (part n input i) ≡ rowBytes n) × (3 ≤ rowBytes n)
+    → (rowPart n input i ≡ rowOfBytes n input i) × (length (rowOfBytes n input i) ≡ rowBytes n) × (3 ≤ rowBytes n)
 unfolding rowPart
 row-good n input i h =
     let g = good-row n input i (h .0) (h .2) (h .3) in
-    (ap (λ b. pick b [] (part n input i)) (row-test n input i .1 h), g .0, g .1)
+    (ap (λ b. pick b [] (rowOfBytes n input i)) (row-test n input i .1 h), g .0, g .1)
 
 row-bad : (n : ℕ) (input : List ℕ) (i : ℕ) → ¬ GoodRow n input i → rowPart n input i ≡ []
 unfolding rowPart
 row-bad n input i k = go (rowRefused n input i) refl
   where
-    go : (b : Bool) → rowRefused n input i ≡ b → pick b [] (part n input i) ≡ []
+    go : (b : Bool) → rowRefused n input i ≡ b → pick b [] (rowOfBytes n input i) ≡ []
     go true q = refl
     go false q = absurd (k (row-test n input i .0 q))
 
 -- ---- the order of the checks
 
-first-given : (checks : CheckList) → Given checks (first checks)
+first-given : (checks : RefusalList) → Given checks (first checks)
 first-given [] = refl
 first-given (check ∷ later) = go (check .0) refl (first-given later)
   where

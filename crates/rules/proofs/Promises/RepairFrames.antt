@@ -9,10 +9,10 @@ use native.Mathlib.Omega.{arith}
 use lib.ListN.{length}
 use Rattle.algebra.specs.Words.{Word, differ}
 use Rattle.rules.specs.Words.{isCodeword, isIn, mend}
-use Rattle.rules.specs.Frames.{Frame, Square, row, turned, isFrame}
+use Rattle.rules.specs.Frames.{Frame, Square, row, transposed, isFrame}
 use Rattle.rules.specs.Passes.{passRows, passColumns, pass, differences, counted, clean, repaired, Outcome, passesFrom, decoded}
 use Rattle.rules.specs.Damage.{spoilt}
-use Rattle.rules.proofs.Laws.Shape.{turned-square, turned-twice}
+use Rattle.rules.proofs.Laws.Shape.{transposed-square, transposed-twice}
 use Rattle.rules.proofs.Laws.FrameLaws.{frame-rows, frame-columns}
 use Rattle.rules.proofs.Promises.Answers.{answers}
 use Rattle.rules.proofs.Laws.PassLaws.{decoded-clean, decoded-passes, step-repaired, step-on, pass-one, pass-two, passRows-square}
@@ -43,7 +43,7 @@ module _ (n : ℕ) (h : 18 ≤ n) (b : n ≤ 256) where
   unfolding passRows rowsMended
   rows-are f = refl
 
-  columns-are : (f : Frame) → passColumns n f ≡ turned n (rowsMended n (mend n) (turned n f))
+  columns-are : (f : Frame) → passColumns n f ≡ transposed n (rowsMended n (mend n) (transposed n f))
   unfolding passColumns passRows rowsMended
   columns-are f = refl
 
@@ -52,15 +52,15 @@ module _ (n : ℕ) (h : 18 ≤ n) (b : n ≤ 256) where
   frame-left f s k = (
     rows-are f ∙ rows-left n 2 (isCodeword n) (mend n) mends f s (frame-rows n f k),
     columns-are f
-        ∙ ap (turned n) (rows-left n 2 (isCodeword n) (mend n) mends (turned n f) (turned-square n f) (frame-columns n f k))
-        ∙ turned-twice n f s,
+        ∙ ap (transposed n) (rows-left n 2 (isCodeword n) (mend n) mends (transposed n f) (transposed-square n f) (frame-columns n f k))
+        ∙ transposed-twice n f s,
   )
 
   module _ (f r : Frame) (sf : Square n f) (sr : Square n r) (k : isFrame n f ≡ true) (d : spoilt 2 n f r ≤ 2) where
     -- a row pass and a column pass
     both : passColumns n (passRows n r) ≡ f
     both =
-        columns-are (passRows n r) ∙ ap (λ x. turned n (rowsMended n (mend n) (turned n x))) (rows-are r)
+        columns-are (passRows n r) ∙ ap (λ x. transposed n (rowsMended n (mend n) (transposed n x))) (rows-are r)
         ∙ two-passes n 2 (isCodeword n) (mend n) mends f r sf sr (frame-rows n f k) (frame-columns n f k) d
 
     -- a frame of codewords on the way is the written one
