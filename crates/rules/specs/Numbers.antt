@@ -111,13 +111,6 @@ unfoldable pub decodeOutput : ℕ → ℕ → List ℕ → List ℕ → List ℕ
 decodeOutput n allowance input output =
     pick (eqb (decodeRefusal n allowance input output) 0) (handedOut n input (decoded n allowance (frameOf n input))) output
 
--- "0: clean, repaired", "7: stuck", "8: spent"
-abbrev pub endingNumber : Ending → ℕ
-endingNumber clean = 0
-endingNumber repaired = 0
-endingNumber stuck = 7
-endingNumber spent = 8
-
 -- document 01's number and values
 pub record Figures : Type 0 where
   pub number : ℕ
@@ -129,8 +122,10 @@ pub record Figures : Type 0 where
 -- "Passes and flips stand for 0, 7 and 8; rows and columns for 7 and 8; all else is zero."
 abbrev pub figuresOf : Decoded → Figures
 figuresOf (refused r) = record { number = r; passes = 0; flips = 0; rows = 0; columns = 0 }
-figuresOf (ended e passes flips rows columns) =
-    record { number = endingNumber e; passes = passes; flips = flips; rows = rows; columns = columns }
+figuresOf (ended clean p f r c) = record { number = 0; passes = p; flips = f; rows = 0; columns = 0 }
+figuresOf (ended repaired p f r c) = record { number = 0; passes = p; flips = f; rows = 0; columns = 0 }
+figuresOf (ended stuck p f r c) = record { number = 7; passes = p; flips = f; rows = r; columns = c }
+figuresOf (ended spent p f r c) = record { number = 8; passes = p; flips = f; rows = r; columns = c }
 
 abbrev pub number : Decoded → ℕ
 number d = figuresOf d .number

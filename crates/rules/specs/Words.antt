@@ -45,18 +45,21 @@ encodeWord u = let w : Word = systematic 16 g u in w ++ isOdd (ones w) ∷ []
 unfoldable pub values : ℕ → List ℕ
 values n = map (λ r. 2 * r + 1) (powersDown 16 g (n - 1)) ++ 1 ∷ []
 
--- e + 1 places, rising, from place p on, whose values ⊕ to s: the first such by its lowest place
+-- just e places, rising, from place p on, whose values ⊕ to s: the first such by its lowest place
 unfoldable pub exactly : ℕ → ℕ → List ℕ → ℕ → Option (List ℕ)
-exactly zero p [] s = none
-exactly zero p (v ∷ vs) s = elim (eqb v s) [ true ↦ some (p ∷ []) | false ↦ exactly zero (suc p) vs s ]
-exactly (suc e) p [] s = none
-exactly (suc e) p (v ∷ vs) s =
-    elim (exactly e (suc p) vs (s ⊕ v)) [ some ps ↦ some (p ∷ ps) | none ↦ exactly (suc e) (suc p) vs s ]
+exactly zero p vs s = elim (eqb s 0) [ true ↦ some [] | false ↦ none ]
+exactly (suc zero) p [] s = none
+exactly (suc zero) p (v ∷ vs) s = elim (eqb v s) [ true ↦ some (p ∷ []) | false ↦ exactly (suc zero) (suc p) vs s ]
+exactly (suc (suc e)) p [] s = none
+exactly (suc (suc e)) p (v ∷ vs) s = elim (exactly (suc e) (suc p) vs (s ⊕ v)) [
+  | some ps ↦ some (p ∷ ps)
+  | none ↦ exactly (suc (suc e)) (suc p) vs s
+]
 
 -- the fewest places, at most t, whose values ⊕ to s
 unfoldable pub within : ℕ → List ℕ → ℕ → Option (List ℕ)
-within zero vs s = elim (eqb s 0) [ true ↦ some [] | false ↦ none ]
-within (suc t) vs s = elim (within t vs s) [ some ps ↦ some ps | none ↦ exactly t 0 vs s ]
+within zero vs s = exactly zero 0 vs s
+within (suc t) vs s = elim (within t vs s) [ some ps ↦ some ps | none ↦ exactly (suc t) 0 vs s ]
 
 -- the places that were changed, at most two; none where "no codeword lies within two". Only the n places of the word are tried:
 -- "a correction at a place that was cut away doesn't count."

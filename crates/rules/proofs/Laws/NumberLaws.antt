@@ -13,7 +13,8 @@ use Rattle.rules.specs.Words.{dataBits, isIn, answer, mend}
 use Rattle.rules.specs.Frames.{isFrame, corner, rowsFirst}
 use Rattle.rules.specs.Bits.{rowBytes, wordOf, frameOf, wordBytes, bytesOf, sparesSet}
 use Rattle.rules.specs.Passes.{Outcome, decoded}
-use Rattle.rules.specs.Numbers.{mostAllowed, pick, outside, notAllowed, notLong, dataBytes, frameBytes, encodeNumber, encodeOutput, readNumber, readOutput, refused, told, handedOut, decodeRefusal, decodeSaid, decodeOutput, wordRefused, answered, wordRefusal, wordSaid, wordNumber, wordOutput}
+use Rattle.rules.specs.Passes.{Ending, clean, repaired, stuck, spent, Outcome}
+use Rattle.rules.specs.Numbers.{told, handedOut, ended, number, mostAllowed, pick, outside, notAllowed, notLong, dataBytes, frameBytes, encodeNumber, encodeOutput, readNumber, readOutput, refused, told, handedOut, decodeRefusal, decodeSaid, decodeOutput, wordRefused, answered, wordRefusal, wordSaid, wordNumber, wordOutput}
 use Rattle.rules.proofs.Laws.OneOfLaws.{OneOf, one-of-self, one-of-back}
 
 -- ---- one check
@@ -189,3 +190,18 @@ word-refused n input output h =
       at-other r (answered (answer n (wordOf n input 0))) (wordRefused r) h,
       at-other r (pick (eqb (wordNumber (wordSaid n input output)) 0) w input) output h,
     )
+
+-- a success hands out the last frame, another ending what was received
+pub handed :
+    (n : ℕ) (input : List ℕ) (o : Outcome)
+    → handedOut n input o ≡ pick (eqb (number (told o)) 0) (bytesOf n (o .last)) input
+handed n input o = go (o .ending) (o .passes) (o .flips) (o .rows) (o .columns)
+  where
+    go :
+        (e : Ending) (p f r c : ℕ)
+        → elim e as (λ x. List ℕ) [ clean ↦ bytesOf n (o .last) | repaired ↦ bytesOf n (o .last) | stuck ↦ input | spent ↦ input ]
+        ≡ pick (eqb (number (ended e p f r c)) 0) (bytesOf n (o .last)) input
+    go clean p f r c = refl
+    go repaired p f r c = refl
+    go stuck p f r c = refl
+    go spent p f r c = refl

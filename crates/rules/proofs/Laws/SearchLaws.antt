@@ -51,10 +51,10 @@ Says P p vs s (some ps) = Hit P p vs s ps
 Says P p vs s none = Miss P vs s
 
 abbrev Exact : ℕ → ℕ → Type 0
-Exact e o = o ≡ suc e
+Exact e o = o ≡ e
 
 -- the empty list has no ones
-miss-nil : (e s : ℕ) → Miss (Exact e) [] s
+miss-nil : (e s : ℕ) → Miss (Exact (suc e)) [] s
 unfolding ones
 miss-nil e s [] h o = absurd (omega arith)
 miss-nil e s (b ∷ w) h o = absurd (omega arith)
@@ -73,7 +73,7 @@ hit-first e p v vs s ps (w, l, o, d, q) =
     (true ∷ w, ap suc l, omega arith, ap (λ m. v ⊕ m) (d ∙ ⊕-comm s v) ∙ ⊕-cancel v s, ap (λ m. p ∷ m) q)
 
 -- the first place alone
-hit-one : (p v : ℕ) (vs : List ℕ) (s : ℕ) → v ≡ s → Hit (Exact 0) p (v ∷ vs) s (p ∷ [])
+hit-one : (p v : ℕ) (vs : List ℕ) (s : ℕ) → v ≡ s → Hit (Exact 1) p (v ∷ vs) s (p ∷ [])
 unfolding ones dot placesFrom
 hit-one p v vs s h =
     let w : Word = replicate (length vs) false in
@@ -82,8 +82,8 @@ hit-one p v vs s h =
 
 -- none with the first place and none without it
 miss-both :
-    (e v : ℕ) (vs : List ℕ) (s : ℕ) → ((w : Word) → length w ≡ length vs → ones w ≡ e → dot vs w ≢ s ⊕ v) → Miss (Exact e) vs s
-    → Miss (Exact e) (v ∷ vs) s
+    (e v : ℕ) (vs : List ℕ) (s : ℕ) → ((w : Word) → length w ≡ length vs → ones w ≡ e → dot vs w ≢ s ⊕ v) → Miss (Exact (suc e)) vs s
+    → Miss (Exact (suc e)) (v ∷ vs) s
 unfolding ones dot
 miss-both e v vs s first later [] l o d = absurd (omega arith)
 miss-both e v vs s first later (true ∷ w) l o d =
@@ -92,33 +92,46 @@ miss-both e v vs s first later (false ∷ w) l o d = later w (omega arith) (omeg
 
 says-later :
     (e p v : ℕ) (vs : List ℕ) (s : ℕ) → ((w : Word) → length w ≡ length vs → ones w ≡ e → dot vs w ≢ s ⊕ v)
-    → (o : Option (List ℕ)) → Says (Exact e) (suc p) vs s o → Says (Exact e) p (v ∷ vs) s o
-says-later e p v vs s first (some ps) h = hit-later (Exact e) p v vs s ps h
+    → (o : Option (List ℕ)) → Says (Exact (suc e)) (suc p) vs s o → Says (Exact (suc e)) p (v ∷ vs) s o
+says-later e p v vs s first (some ps) h = hit-later (Exact (suc e)) p v vs s ps h
 says-later e p v vs s first none h = miss-both e v vs s first h
+
+-- no place at all
+says-none : (p : ℕ) (vs : List ℕ) (s : ℕ) → Says (Exact 0) p vs s (elim (eqb s 0) [ true ↦ some [] | false ↦ none ])
+says-none p vs s = go (eqb s 0) refl
+  where
+    go : (b : Bool) → eqb s 0 ≡ b → Says (Exact 0) p vs s (elim b [ true ↦ some [] | false ↦ none ])
+    go true q =
+        let w : Word = replicate (length vs) false in
+        let o : ones w ≡ 0 = ones-none (length vs) in
+        (w, length-replicate (length vs) false, o, dot-none vs w o ∙ sym (eqb-true s 0 q), places-none p (length vs))
+    go false q = λ w l o d. eqb-false s 0 q (sym d ∙ dot-none vs w o)
 
 pub exactly-says : (e p : ℕ) (vs : List ℕ) (s : ℕ) → Says (Exact e) p vs s (exactly e p vs s)
 unfolding exactly
-exactly-says zero p [] s = miss-nil zero s
-exactly-says zero p (v ∷ vs) s = go (eqb v s) refl (exactly-says zero (suc p) vs s)
+exactly-says zero p vs s = says-none p vs s
+exactly-says (suc zero) p [] s = miss-nil zero s
+exactly-says (suc zero) p (v ∷ vs) s = go (eqb v s) refl (exactly-says (suc zero) (suc p) vs s)
   where
     go :
-        (b : Bool) → eqb v s ≡ b → Says (Exact 0) (suc p) vs s (exactly zero (suc p) vs s)
-        → Says (Exact 0) p (v ∷ vs) s (elim b [ true ↦ some (p ∷ []) | false ↦ exactly zero (suc p) vs s ])
+        (b : Bool) → eqb v s ≡ b → Says (Exact 1) (suc p) vs s (exactly 1 (suc p) vs s)
+        → Says (Exact 1) p (v ∷ vs) s (elim b [ true ↦ some (p ∷ []) | false ↦ exactly 1 (suc p) vs s ])
     go true q h = hit-one p v vs s (eqb-true v s q)
     go false q h =
         says-later zero p v vs s
         (λ w l o d. eqb-false v s q (sym (⊕-cancel s v) ∙ ap (λ m. s ⊕ m) (sym d ∙ dot-none vs w o) ∙ ⊕-zero s))
-        (exactly zero (suc p) vs s) h
-exactly-says (suc e) p [] s = miss-nil (suc e) s
-exactly-says (suc e) p (v ∷ vs) s =
-    go (exactly e (suc p) vs (s ⊕ v)) (exactly-says e (suc p) vs (s ⊕ v)) (exactly-says (suc e) (suc p) vs s)
+        (exactly 1 (suc p) vs s) h
+exactly-says (suc (suc e)) p [] s = miss-nil (suc e) s
+exactly-says (suc (suc e)) p (v ∷ vs) s =
+    go (exactly (suc e) (suc p) vs (s ⊕ v)) (exactly-says (suc e) (suc p) vs (s ⊕ v)) (exactly-says (suc (suc e)) (suc p) vs s)
   where
     go :
-        (o : Option (List ℕ)) → Says (Exact e) (suc p) vs (s ⊕ v) o
-        → Says (Exact (suc e)) (suc p) vs s (exactly (suc e) (suc p) vs s)
-        → Says (Exact (suc e)) p (v ∷ vs) s (elim o [ some ps ↦ some (p ∷ ps) | none ↦ exactly (suc e) (suc p) vs s ])
-    go (some ps) first h = hit-first e p v vs s ps first
-    go none first h = says-later (suc e) p v vs s first (exactly (suc e) (suc p) vs s) h
+        (o : Option (List ℕ)) → Says (Exact (suc e)) (suc p) vs (s ⊕ v) o
+        → Says (Exact (suc (suc e))) (suc p) vs s (exactly (suc (suc e)) (suc p) vs s)
+        → Says (Exact (suc (suc e))) p (v ∷ vs) s
+        (elim o [ some ps ↦ some (p ∷ ps) | none ↦ exactly (suc (suc e)) (suc p) vs s ])
+    go (some ps) first h = hit-first (suc e) p v vs s ps first
+    go none first h = says-later (suc e) p v vs s first (exactly (suc (suc e)) (suc p) vs s) h
 
 abbrev AtMost : ℕ → ℕ → Type 0
 AtMost t o = o ≤ t
@@ -126,23 +139,20 @@ AtMost t o = o ≤ t
 -- at most t places, whatever the values: found exactly if there are such
 pub within-says : (t : ℕ) (vs : List ℕ) (s : ℕ) → Says (AtMost t) 0 vs s (within t vs s)
 unfolding within
-within-says zero vs s = go (eqb s 0) refl
+within-says zero vs s = fewest (exactly zero 0 vs s) (exactly-says zero 0 vs s)
   where
-    go : (b : Bool) → eqb s 0 ≡ b → Says (AtMost 0) 0 vs s (elim b [ true ↦ some [] | false ↦ none ])
-    go true q =
-        let w : Word = replicate (length vs) false in
-        let o : ones w ≡ 0 = ones-none (length vs) in
-        (w, length-replicate (length vs) false, omega arith, dot-none vs w o ∙ sym (eqb-true s 0 q), places-none 0 (length vs))
-    go false q = λ w l o d. eqb-false s 0 q (sym d ∙ dot-none vs w (omega arith))
+    fewest : (o : Option (List ℕ)) → Says (Exact 0) 0 vs s o → Says (AtMost 0) 0 vs s o
+    fewest (some ps) (w, l, o, d, q) = (w, l, omega arith, d, q)
+    fewest none miss = λ w l o. miss w l (omega arith)
 within-says (suc t) vs s = go (within t vs s) (within-says t vs s)
   where
     go :
         (o : Option (List ℕ)) → Says (AtMost t) 0 vs s o
-        → Says (AtMost (suc t)) 0 vs s (elim o [ some ps ↦ some ps | none ↦ exactly t 0 vs s ])
+        → Says (AtMost (suc t)) 0 vs s (elim o [ some ps ↦ some ps | none ↦ exactly (suc t) 0 vs s ])
     go (some ps) (w, l, o, d, q) = (w, l, omega arith, d, q)
-    go none fewer = more (exactly t 0 vs s) (exactly-says t 0 vs s)
+    go none fewer = more (exactly (suc t) 0 vs s) (exactly-says (suc t) 0 vs s)
       where
-        more : (o : Option (List ℕ)) → Says (Exact t) 0 vs s o → Says (AtMost (suc t)) 0 vs s o
+        more : (o : Option (List ℕ)) → Says (Exact (suc t)) 0 vs s o → Says (AtMost (suc t)) 0 vs s o
         more (some ps) (w, l, o, d, q) = (w, l, omega arith, d, q)
         more none exact =
             λ w l o. elim (decLt t (ones w)) as (λ h. dot vs w ≢ s)

@@ -16,9 +16,9 @@ use Rattle.rules.specs.Words.{dataBits, Answer, codeword, onePlace, twoP
 use Rattle.rules.specs.Frames.{Frame, isFrame, corner, rowsFirst}
 use Rattle.rules.specs.Bits.{rowBytes, wordOf, frameOf, wordBytes, bytesOf, sparesSet}
 use Rattle.rules.specs.Passes.{Ending, clean, repaired, stuck, spent, Outcome, decoded}
-use Rattle.rules.specs.Numbers.{pick, outside, notLong, notAllowed, dataBytes, frameBytes, encodeNumber, encodeOutput, readNumber, readOutput, refused, told, handedOut, decodeRefusal, decodeSaid, decodeOutput, endingNumber, number, wordRefused, answered, wordRefusal, wordSaid, wordNumber, wordOutput, RefusalList, first, encodeRefusals, readRefusals, decodeRefusals, wordRefusals, rowRefused, rowPart}
+use Rattle.rules.specs.Numbers.{pick, outside, notLong, notAllowed, dataBytes, frameBytes, encodeNumber, encodeOutput, readNumber, readOutput, refused, told, handedOut, decodeRefusal, decodeSaid, decodeOutput, ended, number, wordRefused, answered, wordRefusal, wordSaid, wordNumber, wordOutput, RefusalList, first, encodeRefusals, readRefusals, decodeRefusals, wordRefusals, rowRefused, rowPart}
 use Rattle.rules.proofs.Laws.PackLaws.{bytesOf-length, wordBytes-length}
-use Rattle.rules.proofs.Laws.NumberLaws.{range-test, equal-test, checked-in, last-in, encode-accepts, read-accepts, decode-accepts, word-accepts, at-zero, at-other, at-either}
+use Rattle.rules.proofs.Laws.NumberLaws.{range-test, equal-test, checked-in, last-in, encode-accepts, read-accepts, decode-accepts, word-accepts, handed, at-zero, at-other, at-either}
 use Rattle.rules.proofs.Laws.OneOfLaws.{OneOf, one-of-cons, one-of-back, one-of-front, allIn, one-of-range}
 
 -- the table's rows for one entry point: the number given, and what the output holds then
@@ -150,21 +150,12 @@ plain refusals low r accepted input output hr hl =
 
 -- ---- decoding
 
-ending-in : (e : Ending) → OneOf (endingNumber e) (0 ∷ 7 ∷ 8 ∷ [])
+ending-in : (e : Ending) (p f r c : ℕ) → OneOf (number (ended e p f r c)) (0 ∷ 7 ∷ 8 ∷ [])
 unfolding isIn
-ending-in clean = refl
-ending-in repaired = refl
-ending-in stuck = refl
-ending-in spent = refl
-
-handed :
-    (n : ℕ) (input : List ℕ) (e : Ending) (passes flips rows columns : ℕ) (f : Frame)
-    → handedOut n input (record { ending = e; passes = passes; flips = flips; rows = rows; columns = columns; last = f })
-    ≡ pick (eqb (endingNumber e) 0) (bytesOf n f) input
-handed n input clean passes flips rows columns f = refl
-handed n input repaired passes flips rows columns f = refl
-handed n input stuck passes flips rows columns f = refl
-handed n input spent passes flips rows columns f = refl
+ending-in clean p f r c = refl
+ending-in repaired p f r c = refl
+ending-in stuck p f r c = refl
+ending-in spent p f r c = refl
 
 -- a function of what was picked
 pick-ap {ℓ} : {A : Type ℓ} (f : A → ℕ) (b : Bool) (x y : A) → f (pick b x y) ≡ pick b (f x) (f y)
@@ -179,10 +170,10 @@ unfolding decodeRefusal decodeSaid decodeOutput allIn
 decode-table n allowance input output =
     let r : ℕ = decodeRefusal n allowance input output in
     let o : Outcome = decoded n allowance (frameOf n input) in
-    table (1 ∷ 2 ∷ 3 ∷ 4 ∷ []) (7 ∷ 8 ∷ []) refl refl r (endingNumber (o .ending)) (number (decodeSaid n allowance input output))
+    table (1 ∷ 2 ∷ 3 ∷ 4 ∷ []) (7 ∷ 8 ∷ []) refl refl r (number (told o)) (number (decodeSaid n allowance input output))
     (handedOut n input o) (bytesOf n (o .last)) input output (pick-ap number (eqb r 0) (told o) (refused r))
-    (last-in n input (frameBytes n) output (frameBytes n) (notAllowed allowance) 4) (ending-in (o .ending))
-    (λ z. handed n input (o .ending) (o .passes) (o .flips) (o .rows) (o .columns) (o .last))
+    (last-in n input (frameBytes n) output (frameBytes n) (notAllowed allowance) 4) (ending-in (o .ending) (o .passes) (o .flips) (o .rows) (o .columns))
+    (λ z. handed n input o)
     (λ z.
     let f = decode-accepts n allowance input output .0 z .0 in
     (bytesOf-length n (o .last) ∙ sym (f .lent), λ p. f .taken ∙ sym (f .lent)))

@@ -25,14 +25,14 @@ use Rattle.rules.specs.Numbers.{
   decodeRefusal,
   decodeSaid,
   decodeOutput,
-  endingNumber,
+  ended,
   number,
   figuresOf,
 }
 use Rattle.rules.specs.Damage.{spoilt}
 use Rattle.rules.proofs.Laws.Shape.{word-ext, frameOf-square, frameOf-row, wordOf-length, wordOf-bit}
 use Rattle.rules.proofs.Laws.PackLaws.{spare-free}
-use Rattle.rules.proofs.Laws.NumberLaws.{Sized, decode-accepts, at-zero}
+use Rattle.rules.proofs.Laws.NumberLaws.{Sized, decode-accepts, handed, at-zero}
 use Rattle.rules.proofs.Promises.Encoding.{Encoded}
 use Rattle.rules.proofs.Promises.RoundTrip.{frame, accepted, encoded, is-written, is-frame}
 use Rattle.rules.proofs.Promises.RepairFrames.{Restored, repairs-frames, eight, two-rows, spoiled-apart}
@@ -81,22 +81,18 @@ pub record Repairs : Type 0 where
 
 -- ---- The proof
 
--- a success hands out the last frame
-handed : (n : ℕ) (input : List ℕ) (o : Outcome) → endingNumber (o .ending) ≡ 0 → handedOut n input o ≡ bytesOf n (o .last)
-handed n input o h = go (o .ending) h
-  where
-    go :
-        (e : Ending) → endingNumber e ≡ 0
-        → elim e as (λ x. List ℕ) [ clean ↦ bytesOf n (o .last) | repaired ↦ bytesOf n (o .last) | stuck ↦ input | spent ↦ input ]
-        ≡ bytesOf n (o .last)
-    go clean q = refl
-    go repaired q = refl
-    go stuck q = absurd (omega arith)
-    go spent q = absurd (omega arith)
+success-zero : (o : Outcome) → (o .ending ≡ clean) ⊎ (o .ending ≡ repaired) → number (told o) ≡ 0
+success-zero o (inl q) = ap (λ e. number (ended e (o .passes) (o .flips) (o .rows) (o .columns))) q
+success-zero o (inr q) = ap (λ e. number (ended e (o .passes) (o .flips) (o .rows) (o .columns))) q
 
-success-zero : (e : Ending) → (e ≡ clean) ⊎ (e ≡ repaired) → endingNumber e ≡ 0
-success-zero e (inl q) = ap endingNumber q
-success-zero e (inr q) = ap endingNumber q
+passes-told : (o : Outcome) → figuresOf (told o) .passes ≡ o .passes
+passes-told o = go (o .ending)
+  where
+    go : (e : Ending) → figuresOf (ended e (o .passes) (o .flips) (o .rows) (o .columns)) .passes ≡ o .passes
+    go clean = refl
+    go repaired = refl
+    go stuck = refl
+    go spent = refl
 
 module _ (n : ℕ) (written : List ℕ) (w : Written n written) where
   the-frame : Frame
@@ -142,12 +138,12 @@ back-here n a written received output w s lo hi lent =
     let b : Restored f o =
     repairs-frames n a (k .from) (k .upTo) lo f (frameOf n received) (square n written w) (frameOf-square n received)
     (whole n written w) (in-class n written w received s) in
-    let e : endingNumber (o .ending) ≡ 0 = success-zero (o .ending) (b .success) in
+    let e : number (told o) ≡ 0 = success-zero o (b .success) in
     let said : decodeSaid n a received output ≡ told o = at-zero r (told o) (refused r) z in
     record {
       zero = ap number said ∙ e;
-      bytes = at-zero r (handedOut n received o) output z ∙ handed n received o e ∙ ap (bytesOf n) (b .frame) ∙ sym (is-bytes n written w);
-      few = rw (ap (λ d. figuresOf d .passes) said) (b .few);
+      bytes = at-zero r (handedOut n received o) output z ∙ handed n received o ∙ at-zero (number (told o)) (bytesOf n (o .last)) received e ∙ ap (bytesOf n) (b .frame) ∙ sym (is-bytes n written w);
+      few = rw (ap (λ d. figuresOf d .passes) said ∙ passes-told o) (b .few);
     }
 
 apart-here :

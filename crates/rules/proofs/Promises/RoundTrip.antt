@@ -28,9 +28,9 @@ pub record Trip (n : ℕ) (input output : List ℕ) : Type 0 where
   pub received : Received n input output (encodeOutput n input output)
   -- "The encoder writes spare bits as zero"
   pub spares : sparesSet n (encodeOutput n input output) ≡ 0
-  -- "Reading data takes no notice of the frame's spare bits and writes the data's as zero."
+  -- the input's entries are bytes: "Reading data takes no notice of the frame's spare bits and writes the data's as zero."
   pub reads :
-      (s back : List ℕ) → Received n input output s → length back ≡ dataBytes n
+      ((p : ℕ) → getD input p 0 < 256) → (s back : List ℕ) → Received n input output s → length back ≡ dataBytes n
       → (readNumber n s back ≡ 0) × (readOutput n s back ≡ input)
   -- "If it is a frame of codewords, it is clean, with 0 passes."
   pub decodes :
@@ -43,7 +43,7 @@ pub record RoundTrips : Type 0 where
       (n : ℕ) (input output : List ℕ)
       → (encodeNumber n input output ≡ 0) ↔ (Sized n input (dataBytes n) output (frameBytes n) × (sparesSet (dataBits n) input ≡ 0))
   pub trip :
-      (n : ℕ) (input output : List ℕ) → ((p : ℕ) → getD input p 0 < 256) → encodeNumber n input output ≡ 0 → Trip n input output
+      (n : ℕ) (input output : List ℕ) → encodeNumber n input output ≡ 0 → Trip n input output
 
 -- ---- a frame of codewords is read, and is clean
 
@@ -91,8 +91,8 @@ module _ (n : ℕ) (input output : List ℕ) (zero : encodeNumber n input output
   is-frame s e = e ∙ ap (frameOf n) is-written ∙ frame-of-bytes n (frame n input) (encoded .square)
 
 trip-here :
-    (n : ℕ) (input output : List ℕ) → ((p : ℕ) → getD input p 0 < 256) → encodeNumber n input output ≡ 0 → Trip n input output
-trip-here n input output bytes zero =
+    (n : ℕ) (input output : List ℕ) → encodeNumber n input output ≡ 0 → Trip n input output
+trip-here n input output zero =
     let a = accepted n input output zero in
     let f : Frame = frame n input in
     let w = is-written n input output zero in
@@ -101,7 +101,7 @@ trip-here n input output bytes zero =
       written = w;
       received = (ap length w ∙ bytesOf-length n f, refl);
       spares = ap (sparesSet n) w ∙ spares-of-bytes n f (e .square);
-      reads = λ s back r h.
+      reads = λ bytes s back r h.
           let p = read-frame n s (a .0 .from) (a .0 .upTo) (r .0) f (is-frame n input output zero s (r .1)) (e .frame) back h in
           (p .0, p .1 ∙ ap (bytesOf (dataBits n)) (e .holds) ∙ bytes-of-frame (dataBits n) input (a .0 .taken) bytes (a .1));
       decodes = λ s out allowance r h lo hi.
