@@ -25,9 +25,13 @@ use Rattle.rules.specs.Words.{g, checks, Codeword}
 use Rattle.rules.proofs.Laws.CheckLaws.{low, low-small, g-low, last-bit, ones-last, checks-split, codeword-checks, checks-⊻}
 use Rattle.rules.proofs.Laws.PowerSumLaws.{part, part-additive, part-carried}
 
+-- different codewords differ in at least d places
+abbrev pub DistanceAt : ℕ → Type 0
+DistanceAt d = (n : ℕ) → 18 ≤ n → n ≤ 256 → (w u : Word) → Codeword n w → Codeword n u → w ≢ u → d ≤ differ w u
+
 -- "Distinct codewords differ in at least 6 places."
 abbrev pub Distance : Type 0
-Distance = (n : ℕ) → 18 ≤ n → n ≤ 256 → (w u : Word) → Codeword n w → Codeword n u → w ≢ u → 6 ≤ differ w u
+Distance = DistanceAt 6
 
 -- "Lengths below 256 are shortened": z zeros before a word change none of its checks.
 abbrev pub Shortened : Type 0

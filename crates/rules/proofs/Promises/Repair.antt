@@ -46,9 +46,14 @@ pub record Written (n : ℕ) (written : List ℕ) : Type 0 where
   pub accepts : encodeNumber n input blank ≡ 0
   pub writes : encodeOutput n input blank ≡ written
 
--- "spoiled so that at most two rows have three or more wrong bits"; spare bits are no code bits
+-- at most `rows` rows have three or more wrong bits; spare bits are no code bits
+abbrev pub SpoiledAt : ℕ → ℕ → List ℕ → List ℕ → Type 0
+SpoiledAt rows n written received =
+    (length received ≡ frameBytes n) × (spoilt 2 n (frameOf n written) (frameOf n received) ≤ rows)
+
+-- "spoiled so that at most two rows have three or more wrong bits"
 abbrev pub Spoiled : ℕ → List ℕ → List ℕ → Type 0
-Spoiled n written received = (length received ≡ frameBytes n) × (spoilt 2 n (frameOf n written) (frameOf n received) ≤ 2)
+Spoiled = SpoiledAt 2
 
 -- "comes back exactly, in at most two passes"
 pub record Back (n allowance : ℕ) (written received output : List ℕ) : Type 0 where
@@ -60,11 +65,14 @@ pub record Back (n allowance : ℕ) (written received output : List ℕ) : Type 
 abbrev pub Agree : ℕ → List ℕ → List ℕ → Type 0
 Agree n s s′ = (i j : ℕ) → i < n → j < n → bitAt s (i * stride n + j) ≡ bitAt s′ (i * stride n + j)
 
+-- what is spoiled in at most `rows` rows comes back "at any allowance of two or more"
+abbrev pub BackAt : ℕ → Type 0
+BackAt rows =
+    (n allowance : ℕ) (written received output : List ℕ) → Written n written → SpoiledAt rows n written received → 2 ≤ allowance
+    → allowance ≤ mostAllowed → length output ≡ frameBytes n → Back n allowance written received output
+
 pub record Repairs : Type 0 where
-  -- "at any allowance of two or more"
-  pub back :
-      (n allowance : ℕ) (written received output : List ℕ) → Written n written → Spoiled n written received → 2 ≤ allowance
-      → allowance ≤ mostAllowed → length output ≡ frameBytes n → Back n allowance written received output
+  pub back : BackAt 2
   -- "No two different written frames, spoiled so, can agree."
   pub apart :
       (n : ℕ) (written written′ received received′ : List ℕ) → Written n written → Written n written′ → written ≢ written′
@@ -123,9 +131,7 @@ module _ (n : ℕ) (written : List ℕ) (w : Written n written) where
   unfolding the-frame
   whole = made .frame
 
-back-here :
-    (n allowance : ℕ) (written received output : List ℕ) → Written n written → Spoiled n written received → 2 ≤ allowance
-    → allowance ≤ mostAllowed → length output ≡ frameBytes n → Back n allowance written received output
+back-here : BackAt 2
 unfolding decodeSaid decodeOutput
 back-here n a written received output w s lo hi lent =
     let f : Frame = the-frame n written w in

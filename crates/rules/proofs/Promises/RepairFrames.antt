@@ -26,12 +26,15 @@ pub record Restored (f : Frame) (o : Outcome) : Type 0 where
   pub frame : o .last ≡ f
   pub few : o .passes ≤ 2
 
--- "Any written frame, spoiled so that at most two rows have three or more wrong bits, comes back exactly, in at most two passes,
--- at any allowance of two or more."
-abbrev pub RepairsFrames : Type 0
-RepairsFrames =
+-- any written frame with at most `rows` rows of three or more wrong bits comes back, at any allowance of two or more
+abbrev pub RepairsFramesAt : ℕ → Type 0
+RepairsFramesAt rows =
     (n allowance : ℕ) → 18 ≤ n → n ≤ 256 → 2 ≤ allowance → (written received : Frame) → Square n written → Square n received
-    → isFrame n written ≡ true → spoilt 2 n written received ≤ 2 → Restored written (decoded n allowance received)
+    → isFrame n written ≡ true → spoilt 2 n written received ≤ rows → Restored written (decoded n allowance received)
+
+-- "spoiled so that at most two rows have three or more wrong bits"
+abbrev pub RepairsFrames : Type 0
+RepairsFrames = RepairsFramesAt 2
 
 -- ---- The proof
 
