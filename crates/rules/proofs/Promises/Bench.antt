@@ -24,7 +24,9 @@ use Rattle.rules.specs.Numbers.{
   decodeOutput,
   WordSaid,
   answered,
+  number,
   wordSaid,
+  wordNumber,
   wordOutput,
 }
 use Rattle.rules.proofs.Laws.Shape.{wordOf-length}
@@ -42,20 +44,24 @@ pub data Asked : Type 0 where
   -- n, a frame's bytes: how many of its code bits are ones
   weigh : ℕ → List ℕ → Asked
 
--- what is said, and what stands in the output then
 pub data Got : Type 0 where
-  decodes : Decoded → List ℕ → Got
+  -- the number, what is said, the output
+  decodes : ℕ → Decoded → List ℕ → Got
   encodes : ℕ → List ℕ → Got
-  words : WordSaid → List ℕ → Got
+  words : ℕ → WordSaid → List ℕ → Got
   weighs : ℕ → Got
 
 unfoldable pub nines : ℕ → List ℕ
 nines m = replicate m 9
 
 unfoldable pub got : Asked → Got
-got (decode n a s) = decodes (decodeSaid n a s (nines (frameBytes n))) (decodeOutput n a s (nines (frameBytes n)))
+got (decode n a s) =
+    let said : Decoded = decodeSaid n a s (nines (frameBytes n)) in
+    decodes (number said) said (decodeOutput n a s (nines (frameBytes n)))
 got (encode n d) = encodes (encodeNumber n d (nines (frameBytes n))) (encodeOutput n d (nines (frameBytes n)))
-got (word n s) = words (wordSaid n s (nines (rowBytes n))) (wordOutput n s (nines (rowBytes n)))
+got (word n s) =
+    let said : WordSaid = wordSaid n s (nines (rowBytes n)) in
+    words (wordNumber said) said (wordOutput n s (nines (rowBytes n)))
 got (weigh n s) = weighs (total n (λ i. ones (row (frameOf n s) i)))
 
 -- "zero, and B7 B1 C0", each as one row of 18 bits
@@ -82,30 +88,30 @@ nine = 0xE0 ∷ 0 ∷ 0 ∷ 0xE0 ∷ 0 ∷ 0 ∷ 0xE0 ∷ 0 ∷ 0 ∷ zeros 45
 unfoldable pub table : List (Asked × Got)
 table =
     -- A: all zero: clean
-    (decode 18 2 (zeros 54), decodes (ended clean 0 0 0 0) (zeros 54))
+    (decode 18 2 (zeros 54), decodes 0 (ended clean 0 0 0 0) (zeros 54))
     -- B: bits 0 and 1 of row 0 set: repaired in 1 pass, 2 flips
-    ∷ (decode 18 2 (0xC0 ∷ zeros 53), decodes (ended repaired 1 2 0 0) (zeros 54))
+    ∷ (decode 18 2 (0xC0 ∷ zeros 53), decodes 0 (ended repaired 1 2 0 0) (zeros 54))
     -- C: rows 0 and 1 all ones: 2 passes, 36 flips
-    ∷ (decode 18 2 (all ++ all ++ zeros 48), decodes (ended repaired 2 36 0 0) (zeros 54))
+    ∷ (decode 18 2 (all ++ all ++ zeros 48), decodes 0 (ended repaired 2 36 0 0) (zeros 54))
     -- with allowance 1: spent, 1 pass, 0 flips, 2 rows, 18 columns
-    ∷ (decode 18 1 (all ++ all ++ zeros 48), decodes (ended spent 1 0 2 18) (all ++ all ++ zeros 48))
+    ∷ (decode 18 1 (all ++ all ++ zeros 48), decodes 8 (ended spent 1 0 2 18) (all ++ all ++ zeros 48))
     -- D: bits 0..2 of rows 0..2 set: stuck after 2 passes, 3 rows, 3 columns
-    ∷ (decode 18 2 nine, decodes (ended stuck 2 0 3 3) nine)
+    ∷ (decode 18 2 nine, decodes 7 (ended stuck 2 0 3 3) nine)
     -- data bit 1
     ∷ (encode 18 (0x80 ∷ []), encodes 0 square)
     -- 144 ones
     ∷ (weigh 18 square, weighs 144)
     -- word of 18 with only bit 17 set: zero, one place
-    ∷ (word 18 (0x00 ∷ 0x00 ∷ 0x40 ∷ []), words (answered (onePlace 17)) o)
+    ∷ (word 18 (0x00 ∷ 0x00 ∷ 0x40 ∷ []), words 0 (answered (onePlace 17)) o)
     -- word of 18 with bits 0, 1, 2 set: number 9
-    ∷ (word 18 (0xE0 ∷ 0x00 ∷ 0x00 ∷ []), words (answered beyond) (0xE0 ∷ 0x00 ∷ 0x00 ∷ []))
+    ∷ (word 18 (0xE0 ∷ 0x00 ∷ 0x00 ∷ []), words 9 (answered beyond) (0xE0 ∷ 0x00 ∷ 0x00 ∷ []))
     -- word of 256 ones: a codeword
-    ∷ (word 256 (replicate 32 0xFF), words (answered codeword) (replicate 32 0xFF))
+    ∷ (word 256 (replicate 32 0xFF), words 0 (answered codeword) (replicate 32 0xFF))
     -- of 255 ones, and of 254: number 9
-    ∷ (word 255 (replicate 31 0xFF ++ 0xFE ∷ []), words (answered beyond) (replicate 31 0xFF ++ 0xFE ∷ []))
-    ∷ (word 254 (replicate 31 0xFF ++ 0xFC ∷ []), words (answered beyond) (replicate 31 0xFF ++ 0xFC ∷ []))
+    ∷ (word 255 (replicate 31 0xFF ++ 0xFE ∷ []), words 9 (answered beyond) (replicate 31 0xFF ++ 0xFE ∷ []))
+    ∷ (word 254 (replicate 31 0xFF ++ 0xFC ∷ []), words 9 (answered beyond) (replicate 31 0xFF ++ 0xFC ∷ []))
     -- A with a spare bit set: clean, output all zero
-    ∷ (decode 18 2 (0x00 ∷ 0x00 ∷ 0x20 ∷ zeros 51), decodes (ended clean 0 0 0 0) (zeros 54))
+    ∷ (decode 18 2 (0x00 ∷ 0x00 ∷ 0x20 ∷ zeros 51), decodes 0 (ended clean 0 0 0 0) (zeros 54))
     ∷ []
 
 -- every item of a table gets what stands beside it
@@ -120,7 +126,7 @@ pub bench : Bench
 unfolding computing nines got table
 bench = refl
 
--- ---- "Errors of reasoning we have met", where no item above shows them
+-- ---- More items: the errors of reasoning that no item above shows, and passes after the second
 
 -- places 0, 8 and 13 of 32 have the remainder of places 16 and 30
 abbrev three : List ℕ
@@ -129,26 +135,42 @@ three = 0x80 ∷ 0x84 ∷ 0x00 ∷ 0x00 ∷ []
 abbrev pair : List ℕ
 pair = 0x00 ∷ 0x00 ∷ 0x80 ∷ 0x02 ∷ []
 
--- item D, and one wrong bit that pass 1 mends
+-- three rows of 18 bits, each by its first byte, all else zero
+abbrev rows3 : ℕ → ℕ → ℕ → List ℕ
+rows3 x y z = x ∷ 0 ∷ 0 ∷ y ∷ 0 ∷ 0 ∷ z ∷ zeros 47
+
+-- item D, and one wrong bit in row 10
 abbrev half : List ℕ
 half = 0xE0 ∷ 0 ∷ 0 ∷ 0xE0 ∷ 0 ∷ 0 ∷ 0xE0 ∷ 0 ∷ 0 ∷ zeros 21 ++ 0x00 ∷ 0x20 ∷ 0x00 ∷ zeros 21
 
-unfoldable pub errors : List (Asked × Got)
-errors =
+-- ten of the twelve ones of B7 B1 C0, so pass 1 sets the two others
+abbrev ten : List ℕ
+ten = 0x17 ∷ 0xB1 ∷ 0xC0 ∷ zeros 51
+
+unfoldable pub more : List (Asked × Got)
+more =
     -- "Fixing two located errors when the overall parity says three."
-    (word 32 three, words (answered beyond) three)
-    ∷ (word 32 pair, words (answered (twoPlaces 16 30)) (zeros 4))
+    (word 32 three, words 9 (answered beyond) three)
+    ∷ (word 32 pair, words 0 (answered (twoPlaces 16 30)) (zeros 4))
     -- "Handing out the half-mended frame when stuck."
-    ∷ (decode 18 2 half, decodes (ended stuck 2 1 3 3) half)
+    ∷ (decode 18 2 half, decodes 7 (ended stuck 2 1 3 3) half)
+    -- pass 3 decodes the rows again
+    ∷ (decode 18 3 (rows3 0xE0 0xD0 0xC8), decodes 0 (ended repaired 3 9 0 0) (zeros 54))
+    -- spent after it changed bits: rows and columns of the last frame, the received bytes
+    ∷ (decode 18 2 (rows3 0xE0 0xD0 0xC8), decodes 8 (ended spent 2 3 3 2) (rows3 0xE0 0xD0 0xC8))
+    -- stuck at pass 3
+    ∷ (decode 18 4 (rows3 0xE4 0xE0 0xE0), decodes 7 (ended stuck 3 1 3 3) (rows3 0xE4 0xE0 0xE0))
+    -- flips are summed over the passes: 2 that pass 1 adds, and 12 that pass 2 takes away
+    ∷ (decode 18 2 ten, decodes 0 (ended repaired 2 14 0 0) (zeros 54))
     ∷ []
 
-pub record Reasoning : Type 0 where
-  pub shown : Shown errors
+pub record MoreItems : Type 0 where
+  pub shown : Shown more
   pub located : remainder 32 (wordOf 32 three 0) ≡ remainder 32 (wordOf 32 pair 0)
 
-pub reasoning : Reasoning
-unfolding computing nines got errors
-reasoning = record { shown = refl; located = refl }
+pub more-items : MoreItems
+unfolding computing nines got more
+more-items = record { shown = refl; located = refl }
 
 -- ---- The items without a star: the ranges of n, of the allowance and of the sizes
 

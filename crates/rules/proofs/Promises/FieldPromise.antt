@@ -1,18 +1,29 @@
 -- Document 01's sentences on the field, and on g.
 -- Assumes nothing.
 use mathlib.Core.Path.{_≡_, refl, sym, _∙_}
-use mathlib.Core.List.{[], _∷_}
-use Prim.Native.Nat.{ℕ, _≤_, _<_}
+use mathlib.Core.Logic.{_≢_}
+use mathlib.Core.List.{List, [], _∷_}
+use Prim.Native.Nat.{ℕ, _*_, _≤_, _<_}
+use native.Mathlib.Omega.{arith}
+use lib.Dec.{lit<}
 use lib.ListN.{getD}
 use Rattle.algebra.specs.Xor.{_⊕_}
+use Rattle.algebra.specs.Linear.{lin}
+use Rattle.algebra.specs.LogTables.{Tables}
 use Rattle.algebra.specs.Register.{iter, turn}
 use Rattle.algebra.specs.Tables.{tab, tabFrom}
 use Rattle.algebra.specs.Remainder.{binary, times}
 use Rattle.algebra.specs.Sums.{xsum}
-use Rattle.algebra.specs.Field256.{logs}
-use Rattle.algebra.proofs.Field256Laws.{powers256-at, round256, powers256-logs, logs256-lt}
+use Rattle.algebra.specs.Field256.{powers, logs}
+use Rattle.algebra.proofs.LinearLaws.{lin-additive, agrees}
+use Rattle.algebra.proofs.Inverse.{rebuilt, inverse-tested}
+use Rattle.algebra.proofs.Field256Laws.{tables256, powers256-at, round256, powers256-logs, logs256-lt}
 use Rattle.rules.specs.Field.{poly, minimal₁, minimal₃, timesA, power, valueAt}
 use Rattle.rules.specs.Words.{g}
+
+-- the value at a^r of the polynomial of degree below 8 with the binary digits of x
+unfoldable pub lowValue : ℕ → ℕ → ℕ
+lowValue r x = lin (tab 8 (λ e. power (r * e))) x
 
 pub record FieldPromise : Type 0 where
   -- "a a root of z^8+z^4+z^3+z^2+1"
@@ -27,12 +38,28 @@ pub record FieldPromise : Type 0 where
   pub whole : (x : ℕ) → 1 ≤ x → x < 256 → (e : ℕ) × (e < 255) × (power e ≡ x)
   -- "The minimal polynomial of a^3 is z^8+z^6+z^5+z^4+z^2+z+1."
   pub root₃ : valueAt 3 minimal₃ ≡ 0
+  -- minimal: no polynomial of a lower degree but 0 has that root
+  pub least : (x : ℕ) → 1 ≤ x → x < 256 → lowValue 3 x ≢ 0
+  -- "The powers and logarithms are kept as tables .. whose rule is shown once for the whole table."
+  pub tables : Tables 7 29 powers logs
   -- "The product of the two is g"
   pub product : times (poly minimal₁) 0 (binary 9 (poly minimal₃)) ≡ g
 
 power-is : (e : ℕ) → power e ≡ iter e (turn 7 29) 1
 unfolding power timesA poly
 power-is e = refl
+
+-- the columns of the map that takes `lowValue 3` back
+back : List ℕ
+back = 1 ∷ 99 ∷ 236 ∷ 2 ∷ 198 ∷ 175 ∷ 4 ∷ 251 ∷ []
+
+least-here : (x : ℕ) → 1 ≤ x → x < 256 → lowValue 3 x ≢ 0
+unfolding _⊕_ iter turn tab tabFrom poly timesA power lowValue lin agrees rebuilt back
+least-here x lo hi e =
+    let cs : List ℕ = tab 8 (λ e. power (3 * e)) in
+    let z : x ≡ 0 =
+    inverse-tested 8 ((lin cs, lin back) ∷ []) ((lin-additive cs, lin-additive back), tt) tt hi (lit< tt) (e, tt) in
+    omega arith
 
 pub field-promise : FieldPromise
 unfolding _⊕_ iter turn tab tabFrom xsum poly minimal₁ minimal₃ timesA power valueAt binary times g
@@ -45,5 +72,7 @@ field-promise =
           let e : ℕ = getD logs x 0 in
           (e, logs256-lt x lo hi, power-is e ∙ sym (powers256-at e (logs256-lt x lo hi)) ∙ powers256-logs x lo hi);
       root₃ = refl;
+      least = least-here;
+      tables = tables256;
       product = refl;
     }
