@@ -63,9 +63,14 @@ total-suc : (n : ℕ) (f : ℕ → ℕ) → total (suc n) f ≡ f 0 + total n (�
 unfolding sum
 total-suc n f = ap sum (tab-suc n f)
 
-total-none : (f : ℕ → ℕ) → total 0 f ≡ 0
+pub total-none : (f : ℕ → ℕ) → total 0 f ≡ 0
 unfolding sum
 total-none f = ap sum (tab-zero f)
+
+-- the others and the last term
+pub total-last : (n : ℕ) (f : ℕ → ℕ) → total (suc n) f ≡ total n f + f n
+total-last zero f = omega (arith, total-suc 0 f, total-none f, total-none (λ i. f (suc i)))
+total-last (suc n) f = omega (arith, total-suc (suc n) f, total-suc n f, total-last n (λ i. f (suc i)))
 
 -- a count is the sum of ones
 pub count-total : (n : ℕ) (p : ℕ → Bool) → count n p ≡ total n (λ i. num (p i))

@@ -7,6 +7,7 @@ pub mod Answers
 pub mod Encoding
 pub mod RoundTrip
 pub mod Refusals
+pub mod Passes
 pub mod Determined
 -- Demand 3, and where it ends
 pub mod RepairFrames

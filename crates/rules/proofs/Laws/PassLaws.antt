@@ -26,7 +26,7 @@ use Rattle.rules.specs.Passes.{
   passesFrom,
   decoded,
 }
-use Rattle.rules.proofs.Laws.Shape.{row-tab, transposed-square}
+use Rattle.rules.proofs.Laws.Shape.{row-tab, transposed-square, transposed-twice}
 use Rattle.rules.proofs.Laws.PatternLaws.{changed-length}
 
 -- ---- the start
@@ -125,6 +125,13 @@ passRows-square n f s = (
   tab-length n (λ i. mend n (row f i)),
   λ i h. ap length (passRows-row n f i h) ∙ mend-length n (row f i) ∙ s .1 i h,
 )
+
+pub passColumns-row : (n : ℕ) (f : Frame) (j : ℕ) → j < n → row (transposed n (passColumns n f)) j ≡ mend n (row (transposed n f) j)
+unfolding passColumns
+passColumns-row n f j h =
+    ap (λ (x : Frame). row x j)
+    (transposed-twice n (passRows n (transposed n f)) (passRows-square n (transposed n f) (transposed-square n f)))
+    ∙ passRows-row n (transposed n f) j h
 
 pub pass-square : (n p : ℕ) (f : Frame) → Square n f → Square n (pass n p f)
 unfolding pass passColumns

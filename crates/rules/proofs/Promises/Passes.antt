@@ -1,0 +1,249 @@
+-- Document 01's pass rule, stated without the recursion of its definition: it holds of `decoded`, and of nothing else.
+-- Assumes nothing.
+use mathlib.Core.Path.{_≡_, refl, sym, ap, ap₂, _∙_}
+use mathlib.Core.Logic.{_↔_}
+use mathlib.Core.Bool.{Bool, true, false, cond, _&&_, and-eq-true-iff, not-eq-not}
+use Prim.Native.Nat.{ℕ, zero, suc, _+_, _-_, _≤_, _<_}
+use native.Mathlib.Omega.{arith}
+use native.Mathlib.Decide.{decLt}
+use lib.Dec.{leb, eqb}
+use borrow.Author.Tests.{leb-true, eqb-true, le-leb, eq-eqb}
+use Rattle.algebra.specs.Tables.{total}
+use Rattle.algebra.specs.Remainder.{isOdd}
+use Rattle.algebra.proofs.TableLaws.{total-none, total-last}
+use Rattle.rules.specs.Words.{mend}
+use Rattle.rules.specs.Frames.{Frame, Square, row, transposed, badRows, badColumns, isFrame}
+use Rattle.rules.specs.Passes.{passRows, passColumns, pass, differences, counted, isStuck, passesFrom, decoded}
+use Rattle.rules.specs.Passes.{Ending, clean, repaired, stuck, spent, Outcome}
+use Rattle.rules.proofs.Laws.PassLaws.{decoded-clean, decoded-passes, step-repaired, step-stuck, step-on, step-spent}
+use Rattle.rules.proofs.Laws.PassLaws.{passRows-row, passColumns-row, pass-square}
+
+-- ---- The statement
+
+-- "pass 1 decodes every row, pass 2 every column, and so on in turn": the frame after p passes
+unfoldable pub after : ℕ → Frame → ℕ → Frame
+after n f zero = f
+after n f (suc p) = cond (isOdd (suc p)) (passRows n (after n f p)) (passColumns n (after n f p))
+
+-- how many bits the pass behind the first p changes
+abbrev pub changes : ℕ → Frame → ℕ → ℕ
+changes n f p = differences n (after n f p) (after n f (suc p))
+
+-- "every row and column is a codeword"
+abbrev pub Whole : ℕ → Frame → ℕ → Type 0
+Whole n f p = isFrame n (after n f p) ≡ true
+
+-- "this is pass 2 or later and it changed no bit"
+abbrev pub Idle : ℕ → Frame → ℕ → Type 0
+Idle n f p = (2 ≤ p) × (changes n f (p - 1) ≡ 0)
+
+-- the received frame is none of codewords, p passes are made of an allowance of a, and no pass before ended them
+pub record Running (n a : ℕ) (f : Frame) (p : ℕ) : Type 0 where
+  pub torn : isFrame n f ≡ false
+  pub some : 1 ≤ p
+  pub allowed : p ≤ a
+  pub before : (q : ℕ) → 1 ≤ q → q < p → (¬ Whole n f q) × (¬ Idle n f q)
+
+-- "If it is a frame of codewords, it is clean, with 0 passes"; else "the passes end at the first of these that holds"
+abbrev pub Ends : ℕ → ℕ → Frame → ℕ → Ending → Type 0
+Ends n a f p clean = (p ≡ 0) × (isFrame n f ≡ true)
+Ends n a f p repaired = Running n a f p × Whole n f p
+Ends n a f p stuck = Running n a f p × (¬ Whole n f p) × Idle n f p
+Ends n a f p spent = Running n a f p × (¬ Whole n f p) × (¬ Idle n f p) × (p ≡ a)
+
+-- "for stuck and spent" alone
+abbrev pub left : Ending → ℕ → ℕ
+left clean x = 0
+left repaired x = 0
+left stuck x = x
+left spent x = x
+
+-- "how it ended, the passes made, the bits flipped (summed over all passes), and for stuck and spent the number of rows and of
+-- columns that are not codewords in the last frame"
+pub record PassRule (n a : ℕ) (f : Frame) (o : Outcome) : Type 0 where
+  pub ends : Ends n a f (o .passes) (o .ending)
+  pub last-is : o .last ≡ after n f (o .passes)
+  pub flips-are : o .flips ≡ total (o .passes) (changes n f)
+  pub rows-are : o .rows ≡ left (o .ending) (badRows n (after n f (o .passes)))
+  pub columns-are : o .columns ≡ left (o .ending) (badColumns n (after n f (o .passes)))
+
+pub record PassesPromise : Type 0 where
+  -- "In a pass each word that has a codeword within two is replaced by it; each other word is left."
+  pub in-rows : (n : ℕ) (f : Frame) (i : ℕ) → i < n → row (passRows n f) i ≡ mend n (row f i)
+  pub in-columns : (n : ℕ) (f : Frame) (j : ℕ) → j < n → row (transposed n (passColumns n f)) j ≡ mend n (row (transposed n f) j)
+  -- and there stay n rows of n bits
+  pub square : (n : ℕ) (f : Frame) → Square n f → (p : ℕ) → Square n (after n f p)
+  pub holds : (n a : ℕ) (f : Frame) → 1 ≤ a → PassRule n a f (decoded n a f)
+  pub only : (n a : ℕ) (f : Frame) (o : Outcome) → 1 ≤ a → PassRule n a f o → o ≡ decoded n a f
+
+-- ---- One pass, and the tests
+
+pass-after : (n : ℕ) (f : Frame) (p : ℕ) → pass n (suc p) (after n f p) ≡ after n f (suc p)
+unfolding pass after
+pass-after n f p = refl
+
+after-none : (n : ℕ) (f : Frame) → f ≡ after n f 0
+unfolding after
+after-none n f = refl
+
+after-square : (n : ℕ) (f : Frame) → Square n f → (p : ℕ) → Square n (after n f p)
+after-square n f s zero = rw (← after-none n f) s
+after-square n f s (suc p) = rw (← pass-after n f p) (pass-square n (suc p) (after n f p) (after-square n f s p))
+
+no-true : {b : Bool} → (¬ (b ≡ true)) ↔ (b ≡ false)
+no-true = not-eq-not {b = false}
+
+stuck-is : (p c : ℕ) → isStuck p c ≡ true → (2 ≤ p) × (c ≡ 0)
+stuck-is p c e = let h = and-eq-true-iff (leb 2 p) (eqb c 0) .0 e in (leb-true 2 p (h .0), eqb-true c 0 (h .1))
+
+is-stuck : (p c : ℕ) → (2 ≤ p) × (c ≡ 0) → isStuck p c ≡ true
+is-stuck p c h = ap₂ _&&_ (le-leb 2 p (h .0)) (eq-eqb c 0 (h .1))
+
+-- ---- The rule holds
+
+-- the numbers of an outcome, by its ending, passes, flips and frame
+abbrev carried : ℕ → Ending → ℕ → ℕ → Frame → Outcome
+carried n e p x g =
+    record { ending = e; passes = p; flips = x; rows = left e (badRows n g); columns = left e (badColumns n g); last = g }
+
+rule :
+    (n a : ℕ) (f : Frame) (e : Ending) (p x : ℕ) (g : Frame) → Ends n a f p e → g ≡ after n f p → x ≡ total p (changes n f)
+    → PassRule n a f (carried n e p x g)
+rule n a f e p x g h eg ex =
+    let r = ap (λ y. left e (badRows n y)) eg in
+    let c = ap (λ y. left e (badColumns n y)) eg in
+    record { ends = h; last-is = eg; flips-are = ex; rows-are = r; columns-are = c }
+
+module _ (n a : ℕ) (f : Frame) (some : 1 ≤ a) (torn : isFrame n f ≡ false) where
+  -- no pass before pass p ended them
+  abbrev Quiet : ℕ → Type 0
+  Quiet p = (q : ℕ) → 1 ≤ q → q < p → (¬ Whole n f q) × (¬ Idle n f q)
+
+  one-more : (p : ℕ) → Quiet p → ¬ Whole n f p → ¬ Idle n f p → Quiet (suc p)
+  one-more p quiet w i q s l = go (decLt q p)
+    where
+      go : Dec (q < p) → (¬ Whole n f q) × (¬ Idle n f q)
+      go (yes h) = quiet q s h
+      go (no h) = let e : q ≡ p = omega (arith, h) in rw e (w, i)
+
+  -- one pass more, behind m of them with x flips and the frame g
+  module _ (m x : ℕ) (g : Frame) (eg : g ≡ after n f m) (ex : x ≡ total m (changes n f)) (quiet : Quiet (suc m)) where
+    abbrev h : Frame
+    h = pass n (suc m) g
+
+    abbrev changed : ℕ
+    changed = changes n f (suc m - 1)
+
+    frame-is : h ≡ after n f (suc m)
+    frame-is = ap (pass n (suc m)) eg ∙ pass-after n f m
+
+    count-is : counted n f x g h ≡ total (suc m) (changes n f)
+    count-is = ap₂ _+_ ex (ap₂ (differences n) eg frame-is) ∙ sym (total-last m (changes n f))
+
+    changed-is : changed ≡ differences n g h
+    changed-is = let e : suc m - 1 ≡ m = omega arith in ap (changes n f) e ∙ sym (ap₂ (differences n) eg frame-is)
+
+    step :
+        (l : ℕ) → m + suc l ≡ a → (Quiet (suc (suc m)) → PassRule n a f (passesFrom n f l (suc m) (counted n f x g h) h))
+        → PassRule n a f (passesFrom n f (suc l) m x g)
+    step l s next =
+        go (isFrame n h) (isStuck (suc m) (differences n g h)) (ap (isFrame n) (sym frame-is)) refl (ap (isStuck (suc m)) changed-is) refl
+      where
+        running : Running n a f (suc m)
+        running = record { torn = torn; some = omega arith; allowed = omega arith; before = quiet }
+
+        go :
+            (b c : Bool) → isFrame n (after n f (suc m)) ≡ b → isFrame n h ≡ b → isStuck (suc m) changed ≡ c
+            → isStuck (suc m) (differences n g h) ≡ c → PassRule n a f (passesFrom n f (suc l) m x g)
+        go true c w w′ t t′ =
+            rw (step-repaired n f l m x g w′) (rule n a f repaired (suc m) (counted n f x g h) h (running, w) frame-is count-is)
+        go false true w w′ t t′ =
+            rw (step-stuck n f l m x g w′ t′)
+            (rule n a f stuck (suc m) (counted n f x g h) h (running, no-true .1 w, stuck-is (suc m) changed t) frame-is count-is)
+        go false false w w′ t t′ =
+            rw (step-on n f l m x g w′ t′)
+            (next (one-more (suc m) quiet (no-true .1 w) (λ i. no-true .1 t (is-stuck (suc m) changed i))))
+
+  -- the passes behind the first m, of which l are left
+  runs :
+      (l m x : ℕ) (g : Frame) → m + l ≡ a → g ≡ after n f m → x ≡ total m (changes n f) → Quiet (suc m)
+      → PassRule n a f (passesFrom n f l m x g)
+  runs zero m x g s eg ex quiet =
+      let here = quiet m (omega arith) (omega arith) in
+      let running : Running n a f m =
+      record { torn = torn; some = omega arith; allowed = omega arith; before = λ q s l. quiet q s (omega arith) } in
+      rw (step-spent n f m x g) (rule n a f spent m x g (running, here .0, here .1, omega arith) eg ex)
+  runs (suc l) m x g s eg ex quiet =
+      step m x g eg ex quiet l s
+      (runs l (suc m) (counted n f x g (pass n (suc m) g)) (pass n (suc m) g) (omega arith) (frame-is m x g eg ex quiet)
+      (count-is m x g eg ex quiet))
+
+holds-of : (n a : ℕ) (f : Frame) → 1 ≤ a → PassRule n a f (decoded n a f)
+holds-of n a f some = start (isFrame n f) refl
+  where
+    start : (b : Bool) → isFrame n f ≡ b → PassRule n a f (decoded n a f)
+    start true w = rw (decoded-clean n a f w) (rule n a f clean 0 0 f (refl, w) (after-none n f) (sym (total-none (changes n f))))
+    start false w =
+        rw (decoded-passes n a f w)
+        (runs n a f some w a 0 0 f (omega arith) (after-none n f) (sym (total-none (changes n f))) (λ q s l. absurd (omega arith)))
+
+-- ---- Nothing else does
+
+-- the ending, by the tests that the rule names
+abbrev named : Bool → Bool → Bool → Ending
+named true w t = clean
+named false true t = repaired
+named false false true = stuck
+named false false false = spent
+
+module _ (n a : ℕ) (f : Frame) where
+  abbrev ending-at : ℕ → Ending
+  ending-at p = named (isFrame n f) (isFrame n (after n f p)) (isStuck p (changes n f (p - 1)))
+
+  ending-is : (p : ℕ) (e : Ending) → Ends n a f p e → e ≡ ending-at p
+  ending-is p clean h = λ i. named (sym (h .1) i) (isFrame n (after n f p)) (isStuck p (changes n f (p - 1)))
+  ending-is p repaired h = λ i. named (sym (h .0 .torn) i) (sym (h .1) i) (isStuck p (changes n f (p - 1)))
+  ending-is p stuck h =
+      λ i. named (sym (h .0 .torn) i) (sym (no-true .0 (h .1)) i) (sym (is-stuck p (changes n f (p - 1)) (h .2)) i)
+  ending-is p spent h =
+      let t = no-true .0 (λ t. h .2 (stuck-is p (changes n f (p - 1)) t)) in
+      λ i. named (sym (h .0 .torn) i) (sym (no-true .0 (h .1)) i) (sym t i)
+
+  -- where p passes ended them, no more are made
+  no-more : (p : ℕ) (e : Ending) → Ends n a f p e → (q : ℕ) → Running n a f q → ¬ (p < q)
+  no-more p clean h q r l = no-true .1 (r .torn) (h .1)
+  no-more p repaired h q r l = r .before p (h .0 .some) l .0 (h .1)
+  no-more p stuck h q r l = r .before p (h .0 .some) l .1 (h .2)
+  no-more p spent h q r l = omega (arith, r .allowed, h .3)
+
+  at-most : (p q : ℕ) (e d : Ending) → Ends n a f p e → Ends n a f q d → q ≤ p
+  at-most p q e clean g h = omega (arith, h .0)
+  at-most p q e repaired g h = omega (arith, no-more p e g q (h .0))
+  at-most p q e stuck g h = omega (arith, no-more p e g q (h .0))
+  at-most p q e spent g h = omega (arith, no-more p e g q (h .0))
+
+  abbrev told : Ending → ℕ → Outcome
+  told e p = carried n e p (total p (changes n f)) (after n f p)
+
+  told-is : (o : Outcome) → PassRule n a f o → o ≡ told (o .ending) (o .passes)
+  told-is o r =
+      let record { ends = _; last-is = g; flips-are = x; rows-are = b; columns-are = c } = r in
+      λ i. record { ending = o .ending; passes = o .passes; flips = x i; rows = b i; columns = c i; last = g i }
+
+  one-outcome : (o o′ : Outcome) → PassRule n a f o → PassRule n a f o′ → o ≡ o′
+  one-outcome o o′ r r′ =
+      let le = at-most (o .passes) (o′ .passes) (o .ending) (o′ .ending) (r .ends) (r′ .ends) in
+      let ge = at-most (o′ .passes) (o .passes) (o′ .ending) (o .ending) (r′ .ends) (r .ends) in
+      let passes : o .passes ≡ o′ .passes = omega arith in
+      let e = ending-is (o .passes) (o .ending) (r .ends) in
+      let e′ = ending-is (o′ .passes) (o′ .ending) (r′ .ends) in
+      told-is o r ∙ ap₂ told (e ∙ ap ending-at passes ∙ sym e′) passes ∙ sym (told-is o′ r′)
+
+pub passes-promise : PassesPromise
+passes-promise = record {
+  in-rows = passRows-row;
+  in-columns = passColumns-row;
+  square = after-square;
+  holds = holds-of;
+  only = λ n a f o some r. one-outcome n a f o (decoded n a f) r (holds-of n a f some);
+}
