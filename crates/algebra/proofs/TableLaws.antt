@@ -1,10 +1,12 @@
 -- Lists made by a rule: read, compared and counted entry by entry.
 -- Assumes nothing.
 use mathlib.Core.Path.{_≡_, refl, sym, ap, ap₂, _∙_}
+use mathlib.Core.Logic.{_≢_}
 use mathlib.Core.Bool.{Bool, true, false}
 use mathlib.Core.List.{List, [], _∷_}
 use Prim.Native.Nat.{ℕ, zero, suc, _+_, _*_, _≤_, _<_}
 use native.Mathlib.Nat.{mul-zero, mul-add, not-suc-le-zero, le-of-suc-le-suc}
+use native.Mathlib.Decide.{ℕ-discrete}
 use native.Mathlib.Omega.{arith}
 use lib.ListN.{length, getD, List·getD-eq-default}
 use lib.Seq.{ext-getD}
@@ -135,6 +137,26 @@ count-zero n p e i h = num-zero (total-zero n (λ i. num (p i)) (sym (count-tota
 
 pub zero-count : (n : ℕ) (p : ℕ → Bool) → ((i : ℕ) → i < n → p i ≡ false) → count n p ≡ 0
 zero-count n p h = count-total n p ∙ zero-total n (λ i. num (p i)) (λ i hi. ap num (h i hi))
+
+-- a sum that is not zero has a term that is not
+pub total-some : (n : ℕ) (f : ℕ → ℕ) → total n f ≢ 0 → (i : ℕ) × (i < n) × (f i ≢ 0)
+total-some zero f h = absurd (h (total-none f))
+total-some (suc n) f h = go (ℕ-discrete (f 0) 0) (total-some n (λ i. f (suc i)))
+  where
+    go :
+        Dec (f 0 ≡ 0) → (total n (λ i. f (suc i)) ≢ 0 → (i : ℕ) × (i < n) × (f (suc i) ≢ 0))
+        → (i : ℕ) × (i < suc n) × (f i ≢ 0)
+    go (yes z) later = let t = later (λ e. h (total-suc n f ∙ ap₂ _+_ z e)) in (suc (t .0), omega (arith, t .1), t .2)
+    go (no z) later = (0, omega arith, z)
+
+-- and a count that is not zero has counted something
+pub count-some : (n : ℕ) (p : ℕ → Bool) → count n p ≢ 0 → (i : ℕ) × (i < n) × (p i ≡ true)
+count-some n p h =
+    let t = total-some n (λ i. num (p i)) (λ e. h (count-total n p ∙ e)) in (t .0, t .1, go (p (t .0)) (t .2))
+  where
+    go : (b : Bool) → num b ≢ 0 → b ≡ true
+    go true k = refl
+    go false k = absurd (k refl)
 
 pub ones-le : (w : List Bool) → ones w ≤ length w
 unfolding ones

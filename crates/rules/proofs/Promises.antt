@@ -3,15 +3,20 @@ pub mod FieldPromise
 pub mod Codewords
 pub mod Distance
 pub mod Answers
+
 -- The frame, and what stands in the output
 pub mod Encoding
 pub mod RoundTrip
-pub mod Refusals
 pub mod Passes
+pub mod EntryRules
+pub mod Entries
 pub mod Determined
+pub mod Refusals
+
 -- Demand 3, and where it ends
 pub mod RepairFrames
 pub mod Repair
 pub mod Limit
+
 -- Document 01's examples
 pub mod Bench

@@ -45,7 +45,7 @@ range-test lo hi n = (
 pub equal-test : (x y : ℕ) → (not (eqb x y) ≡ false) ↔ (x ≡ y)
 equal-test x y = (λ h. eqb-true x y (not-false (eqb x y) h), λ h. ap not (eq-eqb x y h))
 
-true-test : (b : Bool) → (not b ≡ false) ↔ (b ≡ true)
+pub true-test : (b : Bool) → (not b ≡ false) ↔ (b ≡ true)
 true-test b = (not-false b, λ h. ap not h)
 
 -- ---- the checks that every entry point begins with

@@ -1,7 +1,8 @@
 -- Frames and words written as bytes and read back, and bytes read as a frame and written back.
 -- Assumes nothing.
 use mathlib.Core.Path.{_≡_, sym, ap, _∙_}
-use mathlib.Core.Bool.{false}
+use mathlib.Core.Logic.{_≢_}
+use mathlib.Core.Bool.{true, false}
 use mathlib.Core.List.{List}
 use Prim.Native.Nat.{ℕ, _+_, _*_, _-_, _/_, _%_, _^_, _≤_, _<_}
 use native.Mathlib.Nat.{suc-mul, mul-assoc, mul-le-mul-right}
@@ -13,7 +14,7 @@ use lib.Seq.{length-take-le, getD-take, getD-drop}
 use Rattle.algebra.specs.Tables.{tab, count}
 use Rattle.algebra.specs.Words.{Word, bit}
 use Rattle.algebra.specs.Remainder.{isOdd}
-use Rattle.algebra.proofs.TableLaws.{tab-length, tab-at, tab-past, tab-is, total-zero, zero-total, count-zero, zero-count}
+use Rattle.algebra.proofs.TableLaws.{tab-length, tab-at, tab-past, tab-is, total-zero, zero-total, total-some, count-zero, zero-count, count-some}
 use Rattle.rules.specs.Frames.{Frame, row, cell}
 use Rattle.rules.specs.Bits.{rowBytes, stride, squareBytes, bitAt, wordOf, frameOf, byteOf, wordBytes, bytesOf, sparesSet}
 use Rattle.rules.proofs.Laws.Shape.{Square, word-ext, square-ext, bit-past, frameOf-square, frameOf-cell, wordOf-length, wordOf-bit}
@@ -125,6 +126,18 @@ spare-zero n s z i j hi lo hi' =
     ap (bitAt s) e
     ∙ count-zero (stride n - n) (λ j. bitAt s (i * stride n + n + j))
     (total-zero n (λ i. count (stride n - n) (λ j. bitAt s (i * stride n + n + j))) z i hi) (j - n) (omega arith)
+
+pub spare-some :
+    (n : ℕ) (s : List ℕ) → sparesSet n s ≢ 0
+    → (i : ℕ) × (j : ℕ) × (i < n) × (n ≤ j) × (j < stride n) × (bitAt s (i * stride n + j) ≡ true)
+unfolding sparesSet
+spare-some n s h =
+    let t = total-some n (λ i. count (stride n - n) (λ j. bitAt s (i * stride n + n + j))) h in
+    let i : ℕ = t .0 in
+    let c = count-some (stride n - n) (λ j. bitAt s (i * stride n + n + j)) (t .2) in
+    let j : ℕ = n + c .0 in
+    let e : i * stride n + j ≡ i * stride n + n + c .0 = omega arith in
+    (i, j, t .1, omega arith, omega (arith, c .1), ap (bitAt s) e ∙ c .2)
 
 -- frames that agree in all code bits are read alike
 pub spare-free :

@@ -62,7 +62,7 @@ found-back (onePlace p) = refl
 found-back (twoPlaces p q) = refl
 found-back beyond = refl
 
-changed-none : (w : Word) → changed [] w ≡ w
+pub changed-none : (w : Word) → changed [] w ≡ w
 unfolding isIn xor
 changed-none w = word-ext (length w) (changed [] w) w (changed-length [] w) refl (λ j h. changed-bit [] w j h ∙ Bool·not-not (bit w j))
 

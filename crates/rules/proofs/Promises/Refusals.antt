@@ -3,7 +3,7 @@
 use mathlib.Core.Path.{_≡_, refl, sym, ap, _∙_}
 use mathlib.Core.Logic.{_≢_, _↔_, _⊎_, inl, inr}
 use mathlib.Core.Bool.{Bool, true, false, not, _||_, true≢false}
-use mathlib.Core.List.{List, [], _∷_, _++_, map}
+use mathlib.Core.List.{List, [], _∷_, _++_}
 use Prim.Native.Nat.{ℕ, _+_, _*_, _≤_, _<_}
 use native.Mathlib.Nat.{suc-mul, mul-le-mul-right}
 use native.Mathlib.Decide.{ℕ-discrete}
@@ -13,10 +13,10 @@ use lib.ListN.{length, take, drop, length-drop}
 use lib.Seq.{length-take-le}
 use borrow.Author.Tests.{ltb-true, lt-ltb, not-false}
 use Rattle.rules.specs.Words.{dataBits, Answer, codeword, onePlace, twoPlaces, beyond, answer, mend, isIn}
-use Rattle.rules.specs.Frames.{Frame, isFrame, corner, rowsFirst}
+use Rattle.rules.specs.Frames.{isFrame, corner, rowsFirst}
 use Rattle.rules.specs.Bits.{rowBytes, wordOf, frameOf, wordBytes, bytesOf, sparesSet}
 use Rattle.rules.specs.Passes.{Ending, clean, repaired, stuck, spent, Outcome, decoded}
-use Rattle.rules.specs.Numbers.{pick, outside, notLong, notAllowed, dataBytes, frameBytes, encodeNumber, encodeOutput, readNumber, readOutput, refused, told, handedOut, decodeRefusal, decodeSaid, decodeOutput, ended, number, wordRefused, answered, wordRefusal, wordSaid, wordNumber, wordOutput, RefusalList, first, encodeRefusals, readRefusals, decodeRefusals, wordRefusals, rowRefused, rowPart}
+use Rattle.rules.specs.Numbers.{pick, outside, notLong, notAllowed, dataBytes, frameBytes, encodeNumber, encodeOutput, readNumber, readOutput, refused, told, handedOut, decodeRefusal, decodeSaid, decodeOutput, ended, number, wordRefused, answered, wordRefusal, wordSaid, wordNumber, wordOutput, rowRefused, rowPart}
 use Rattle.rules.proofs.Laws.PackLaws.{bytesOf-length, wordBytes-length}
 use Rattle.rules.proofs.Laws.NumberLaws.{range-test, equal-test, checked-in, last-in, encode-accepts, read-accepts, decode-accepts, word-accepts, handed, at-zero, at-other, at-either}
 use Rattle.rules.proofs.Laws.OneOfLaws.{OneOf, one-of-cons, one-of-back, one-of-front, allIn, one-of-range}
@@ -40,15 +40,6 @@ GoodRow n input i = (18 ≤ n) × (n ≤ 256) × (length input ≡ frameBytes n)
 abbrev pub rowOfBytes : ℕ → List ℕ → ℕ → List ℕ
 rowOfBytes n input i = take (rowBytes n) (drop (i * rowBytes n) input)
 
--- the numbers of some checks
-abbrev pub numbers : RefusalList → List ℕ
-numbers checks = map (λ check. check .1) checks
-
--- r is the number of the first check that applies, or 0 where none does
-abbrev pub Given : RefusalList → ℕ → Type 0
-Given [] r = r ≡ 0
-Given (check ∷ later) r = ((check .0 ≡ true) × (r ≡ check .1)) ⊎ ((check .0 ≡ false) × Given later r)
-
 pub record Refuses : Type 0 where
   pub encode :
       (n : ℕ) (input output : List ℕ)
@@ -70,14 +61,6 @@ pub record Refuses : Type 0 where
       (n : ℕ) (input : List ℕ) (i : ℕ)
       → (GoodRow n input i → (rowPart n input i ≡ rowOfBytes n input i) × (length (rowOfBytes n input i) ≡ rowBytes n) × (3 ≤ rowBytes n))
       × (¬ GoodRow n input i → rowPart n input i ≡ [])
-  -- "Checks go in order of number; the first that applies is given"
-  pub order :
-      (n allowance : ℕ) (input output : List ℕ)
-      → (numbers (encodeRefusals n input output) ≡ 1 ∷ 2 ∷ 3 ∷ 5 ∷ [])
-      × (numbers (readRefusals n input output) ≡ 1 ∷ 2 ∷ 3 ∷ 6 ∷ [])
-      × (numbers (decodeRefusals n allowance input output) ≡ 1 ∷ 2 ∷ 3 ∷ 4 ∷ [])
-      × (numbers (wordRefusals n input output) ≡ 1 ∷ 2 ∷ 3 ∷ [])
-  pub applies : (checks : RefusalList) → Given checks (first checks)
 
 -- ---- the table, from the number of the refusal and that of the ending
 
@@ -226,7 +209,7 @@ or-false false false c h = (refl, refl, h)
 false-or : (a b c : Bool) → a ≡ false → b ≡ false → c ≡ false → (a || b || c) ≡ false
 false-or a b c ha hb hc = rw (ha, hb, hc)
 
-row-test : (n : ℕ) (input : List ℕ) (i : ℕ) → (rowRefused n input i ≡ false) ↔ GoodRow n input i
+pub row-test : (n : ℕ) (input : List ℕ) (i : ℕ) → (rowRefused n input i ≡ false) ↔ GoodRow n input i
 row-test n input i = (
   λ h.
       let t = or-false (outside n) (notLong input (frameBytes n)) (not (ltb i n)) h in
@@ -253,19 +236,6 @@ row-bad n input i k = go (rowRefused n input i) refl
     go true q = refl
     go false q = absurd (k (row-test n input i .0 q))
 
--- ---- the order of the checks
-
-first-given : (checks : RefusalList) → Given checks (first checks)
-first-given [] = refl
-first-given (check ∷ later) = go (check .0) refl (first-given later)
-  where
-    go :
-        (b : Bool) → check .0 ≡ b → Given later (first later)
-        → ((check .0 ≡ true) × (pick b (check .1) (first later) ≡ check .1))
-        ⊎ ((check .0 ≡ false) × Given later (pick b (check .1) (first later)))
-    go true q rest = inl (q, refl)
-    go false q rest = inr (q, rest)
-
 pub refuses : Refuses
 unfolding encodeNumber encodeOutput readNumber readOutput allIn
 refuses = record {
@@ -280,6 +250,4 @@ refuses = record {
   decode = decode-table;
   word = word-table;
   row = λ n input i. (row-good n input i, row-bad n input i);
-  order = λ n allowance input output. (refl, refl, refl, refl);
-  applies = first-given;
 }
