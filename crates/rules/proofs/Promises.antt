@@ -3,7 +3,6 @@ pub mod FieldPromise
 pub mod Codewords
 pub mod Distance
 pub mod Answers
-
 -- The frame, and what stands in the output
 pub mod Encoding
 pub mod RoundTrip
@@ -12,11 +11,9 @@ pub mod EntryRules
 pub mod Entries
 pub mod Determined
 pub mod Refusals
-
 -- Demand 3, and where it ends
 pub mod RepairFrames
 pub mod Repair
 pub mod Limit
-
 -- Document 01's examples
 pub mod Bench

@@ -1,19 +1,20 @@
 -- Where the promise ends: a frame past the class of demand 3 that the decoder 'repairs' to a frame that was not written.
 -- Assumes nothing.
-use mathlib.Core.Path.{_≡_, refl, ap}
+use mathlib.Core.Path.{_≡_, refl, sym, ap, _∙_}
 use mathlib.Core.Logic.{_≢_, ⊎-elim}
-use mathlib.Core.Bool.{true≢false}
+use mathlib.Core.Bool.{true, true≢false}
 use mathlib.Core.List.{List, [], _∷_, _++_}
 use Prim.Native.Nat.{ℕ, _≤_}
 use native.Mathlib.Omega.{arith}
-use lib.Dec.{lit≤}
 use lib.ListN.{getD, replicate}
 use Rattle.algebra.specs.Words.{Word, bit, differ}
-use Rattle.rules.specs.Bits.{wordOf, frameOf}
-use Rattle.rules.specs.Passes.{repaired, stuck, differences, Outcome, decoded}
-use Rattle.rules.specs.Numbers.{encodeNumber, encodeOutput, ended, decodeSaid, decodeOutput}
+use Rattle.rules.specs.Frames.{isFrame}
+use Rattle.rules.specs.Bits.{wordOf, frameOf, bytesOf}
+use Rattle.rules.specs.Passes.{clean, repaired, stuck, differences, Outcome, good, decoded}
+use Rattle.rules.specs.Numbers.{encodeNumber, encodeOutput, ended, refused, told, handedOut, decodeRefusal, decodeSaid, decodeOutput, number}
 use Rattle.rules.specs.Damage.{spoilt}
 use Rattle.rules.proofs.Laws.Shape.{frameOf-square}
+use Rattle.rules.proofs.Laws.NumberLaws.{at-zero}
 use Rattle.rules.proofs.Laws.Computing.{computing}
 use Rattle.rules.proofs.Promises.Distance.{DistanceAt}
 use Rattle.rules.proofs.Promises.RepairFrames.{Restored, RepairsFramesAt}
@@ -72,36 +73,90 @@ no-seven d =
     d 31 (omega arith) (omega arith) w u (refl, refl) (refl, refl) (λ q. true≢false (ap (λ x. bit x 0) q)) in
     absurd (omega arith)
 
-no-three : ¬ RepairsFramesAt 3
+nine-stuck : decoded 18 2 (frameOf 18 nine) .ending ≡ stuck
 unfolding computing
+nine-stuck = refl
+
+nine-said : number (decodeSaid 18 2 nine (zeros 54)) ≡ 7
+unfolding computing
+nine-said = refl
+
+nine-rows : (isFrame 18 (frameOf 18 (zeros 54)) ≡ true) × (spoilt 2 18 (frameOf 18 (zeros 54)) (frameOf 18 nine) ≡ 3)
+unfolding computing
+nine-rows = (refl, refl)
+
+zeros-written : Written 18 (zeros 54)
+unfolding computing
+zeros-written = record { input = 0 ∷ []; blank = zeros 54; accepts = refl; writes = refl }
+
+no-three : ¬ RepairsFramesAt 3
 no-three r =
-    let o : Outcome = decoded 18 2 (frameOf 18 nine) in
-    let e : o .ending ≡ stuck = refl in
-    let b : Restored (frameOf 18 (zeros 54)) o =
+    let b : Restored (frameOf 18 (zeros 54)) (decoded 18 2 (frameOf 18 nine)) =
     r 18 2 (omega arith) (omega arith) (omega arith) (frameOf 18 (zeros 54)) (frameOf 18 nine) (frameOf-square 18 (zeros 54))
-    (frameOf-square 18 nine) refl (lit≤ tt) in
-    ⊎-elim (λ q. let z : _≡_ {A = ℕ} 0 1 = cc in omega arith) (λ q. let z : _≡_ {A = ℕ} 0 1 = cc in omega arith) (b .success)
+    (frameOf-square 18 nine) (nine-rows .0) (omega (arith, nine-rows .1)) in
+    ⊎-elim (λ q. apart (sym nine-stuck ∙ q)) (λ q. apart′ (sym nine-stuck ∙ q)) (b .success)
+  where
+    apart : stuck ≢ clean
+    apart q = let z : _≡_ {A = ℕ} 0 1 = cc in omega arith
+
+    apart′ : stuck ≢ repaired
+    apart′ q = let z : _≡_ {A = ℕ} 0 1 = cc in omega arith
 
 no-three-bytes : ¬ BackAt 3
-unfolding computing
 no-three-bytes r =
-    let w : Written 18 (zeros 54) = record { input = 0 ∷ []; blank = zeros 54; accepts = refl; writes = refl } in
-    let b : Back 18 2 (zeros 54) nine (zeros 54) = r 18 2 (zeros 54) nine (zeros 54) w (refl, lit≤ tt) (omega arith) (omega arith) refl in
-    let z = b .zero in
-    omega arith
+    let b : Back 18 2 (zeros 54) nine (zeros 54) =
+    r 18 2 (zeros 54) nine (zeros 54) zeros-written (refl, omega (arith, nine-rows .1)) (omega arith) (omega arith) refl in
+    omega (arith, b .zero, nine-said)
+
+-- computed once, for what is said and for the output
+goes-wrong : decoded 31 2 (frameOf 31 received) ≡ good repaired 2 20 (frameOf 31 other)
+unfolding computing
+goes-wrong = refl
+
+accepted : decodeRefusal 31 2 received (zeros 124) ≡ 0
+unfolding computing
+accepted = refl
+
+said-here : decodeSaid 31 2 received (zeros 124) ≡ ended repaired 2 20 0 0
+unfolding decodeSaid
+said-here =
+    at-zero (decodeRefusal 31 2 received (zeros 124)) (told (decoded 31 2 (frameOf 31 received)))
+    (refused (decodeRefusal 31 2 received (zeros 124))) accepted
+    ∙ ap told goes-wrong
+
+other-bytes : bytesOf 31 (frameOf 31 other) ≡ other
+unfolding computing
+other-bytes = refl
+
+handed-here : decodeOutput 31 2 received (zeros 124) ≡ other
+unfolding decodeOutput
+handed-here =
+    at-zero (decodeRefusal 31 2 received (zeros 124)) (handedOut 31 received (decoded 31 2 (frameOf 31 received))) (zeros 124) accepted
+    ∙ ap (handedOut 31 received) goes-wrong ∙ other-bytes
+
+encoded-here : (encodeNumber 31 (zeros 28) (zeros 124) ≡ 0) × (encodeOutput 31 (zeros 28) (zeros 124) ≡ written)
+unfolding computing
+encoded-here = (refl, refl)
+
+counted-here :
+    (spoilt 2 31 (frameOf 31 written) (frameOf 31 received) ≡ 4)
+    × (differences 31 (frameOf 31 written) (frameOf 31 received) ≡ 16)
+unfolding computing
+counted-here = (refl, refl)
+
+other-wrong : other ≢ written
+other-wrong e = let z = ap (λ l. getD l 0 0) e in omega arith
 
 pub limit : Limit
-unfolding computing
-limit =
-    record {
-      encoded = refl;
-      frame = refl;
-      rows = refl;
-      bits = refl;
-      said = refl;
-      handed = refl;
-      wrong = λ e. let z = ap (λ l. getD l 0 0) e in omega arith;
-      seven = no-seven;
-      three-rows = no-three;
-      three-rows-bytes = no-three-bytes;
-    }
+limit = record {
+  encoded = encoded-here .0;
+  frame = encoded-here .1;
+  rows = counted-here .0;
+  bits = counted-here .1;
+  said = said-here;
+  handed = handed-here;
+  wrong = other-wrong;
+  seven = no-seven;
+  three-rows = no-three;
+  three-rows-bytes = no-three-bytes;
+}
