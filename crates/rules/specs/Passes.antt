@@ -50,7 +50,7 @@ bad e passes flips n f =
 abbrev pub isStuck : ℕ → ℕ → Bool
 isStuck p changes = leb 2 p && eqb changes 0
 
--- "the bits flipped (summed over all passes)": the count after a pass made `now` of `before`
+-- "the bits flipped (summed over all passes)": the count after a pass made `now` of `before`. The received frame doesn't matter to it
 abbrev pub counted : ℕ → Frame → ℕ → Frame → Frame → ℕ
 counted n received flips before now = flips + differences n before now
 

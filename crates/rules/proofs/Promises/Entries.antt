@@ -13,7 +13,7 @@ use Rattle.rules.specs.Words.{dataBits, Answer, codeword, onePlace, twoP
 use Rattle.rules.specs.Frames.{Frame, isFrame}
 use Rattle.rules.specs.Bits.{rowBytes, wordOf, frameOf, wordBytes, bytesOf, sparesSet}
 use Rattle.rules.specs.Passes.{Ending, clean, repaired, stuck, spent, Outcome, decoded}
-use Rattle.rules.specs.Numbers.{pick, outside, notAllowed, notLong, frameBytes, dataBytes, RefusalList, first, sizeRefusals, encodeNumber, encodeOutput, readNumber, readOutput, Decoded, refused, ended, told, handedOut, decodeRefusal, decodeSaid, decodeOutput, Figures, figuresOf, WordSaid, wordRefused, answered, wordRefusal, wordSaid, wordNumber, wordOutput, rowPart}
+use Rattle.rules.specs.Numbers.{pick, outside, notAllowed, notLong, frameBytes, dataBytes, RefusalList, first, sizeRefusals, encodeNumber, encodeOutput, readNumber, readOutput, Decoded, refused, ended, told, handedOut, decodeRefusal, decodeSaid, decodeOutput, Figures, figuresOf, WordSaid, wordRefused, answered, wordRefusal, wordSaid, wordNumber, wordOutput, rowPart, Exit, encode, read, decode, decodeWord}
 use Rattle.rules.proofs.Laws.Shape.{frameOf-square, wordOf-length}
 use Rattle.rules.proofs.Laws.PackLaws.{spare-zero, spare-some}
 use Rattle.rules.proofs.Laws.NumberLaws.{range-test, equal-test, true-test, decode-accepts, word-accepts, at-zero, encode-refused, read-refused, decode-refused, word-refused}
@@ -43,28 +43,24 @@ pub record NumbersPromise : Type 0 where
   -- "no codeword within two (single word)"
   pub beyond-is : wordNumber (answered beyond) ≡ 9
 
+-- what is said and the output at exit keep the rule
+abbrev pub Keeps : {A : Type 0} → (A → List ℕ → Type 0) → Exit A → Type 0
+Keeps Rule e = Rule (e .said) (e .output)
+
+-- whatever keeps the rule is that
+abbrev pub Only : {A : Type 0} → (A → List ℕ → Type 0) → Exit A → Type 0
+Only {A} Rule e = (said : A) (exit : List ℕ) → Rule said exit → (said ≡ e .said) × (exit ≡ e .output)
+
 pub record Entries : Type 0 where
-  -- each definition keeps its rule
-  pub encodes : (n : ℕ) (input output : List ℕ) → EncodeRule n input output (encodeNumber n input output) (encodeOutput n input output)
-  pub reads : (n : ℕ) (input output : List ℕ) → ReadRule n input output (readNumber n input output) (readOutput n input output)
-  pub decodes :
-      (n allowance : ℕ) (input output : List ℕ)
-      → DecodeRule n allowance input output (decodeSaid n allowance input output) (decodeOutput n allowance input output)
-  pub words : (n : ℕ) (input output : List ℕ) → WordRule n input output (wordSaid n input output) (wordOutput n input output)
+  pub encodes : (n : ℕ) (input output : List ℕ) → Keeps (EncodeRule n input output) (encode n input output)
+  pub encodes-only : (n : ℕ) (input output : List ℕ) → Only (EncodeRule n input output) (encode n input output)
+  pub reads : (n : ℕ) (input output : List ℕ) → Keeps (ReadRule n input output) (read n input output)
+  pub reads-only : (n : ℕ) (input output : List ℕ) → Only (ReadRule n input output) (read n input output)
+  pub decodes : (n allowance : ℕ) (input output : List ℕ) → Keeps (DecodeRule n allowance input output) (decode n allowance input output)
+  pub decodes-only : (n allowance : ℕ) (input output : List ℕ) → Only (DecodeRule n allowance input output) (decode n allowance input output)
+  pub words : (n : ℕ) (input output : List ℕ) → Keeps (WordRule n input output) (decodeWord n input output)
+  pub words-only : (n : ℕ) (input output : List ℕ) → Only (WordRule n input output) (decodeWord n input output)
   pub rows : (n : ℕ) (input : List ℕ) (i : ℕ) → RowRule n input i (rowPart n input i)
-  -- and nothing else does
-  pub encodes-only :
-      (n : ℕ) (input output : List ℕ) (r : ℕ) (exit : List ℕ) → EncodeRule n input output r exit
-      → (r ≡ encodeNumber n input output) × (exit ≡ encodeOutput n input output)
-  pub reads-only :
-      (n : ℕ) (input output : List ℕ) (r : ℕ) (exit : List ℕ) → ReadRule n input output r exit
-      → (r ≡ readNumber n input output) × (exit ≡ readOutput n input output)
-  pub decodes-only :
-      (n allowance : ℕ) (input output : List ℕ) (said : Decoded) (exit : List ℕ) → DecodeRule n allowance input output said exit
-      → (said ≡ decodeSaid n allowance input output) × (exit ≡ decodeOutput n allowance input output)
-  pub words-only :
-      (n : ℕ) (input output : List ℕ) (said : WordSaid) (exit : List ℕ) → WordRule n input output said exit
-      → (said ≡ wordSaid n input output) × (exit ≡ wordOutput n input output)
   pub rows-only : (n : ℕ) (input : List ℕ) (i : ℕ) (r : List ℕ) → RowRule n input i r → r ≡ rowPart n input i
   pub numbers : NumbersPromise
 
