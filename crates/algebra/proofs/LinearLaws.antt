@@ -97,8 +97,3 @@ agrees→ (suc k) f g h i hi =
     go (no n) ih =
         let p : i ≡ k = omega arith in
         rw p (eqb→eq (f (2 ^ k)) (g (2 ^ k)) (T-left (eqb (f (2 ^ k)) (g (2 ^ k))) (agrees k f g) h))
-
--- k computed values make two additive maps one map of k digits
-pub agree-tested :
-    (k : ℕ) (f g : ℕ → ℕ) → Additive f → Additive g → T (agrees k f g) → (x : ℕ) → x < 2 ^ k → f x ≡ g x
-agree-tested k f g hf hg t = agree k f g hf hg (agrees→ k f g t)

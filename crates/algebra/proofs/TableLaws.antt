@@ -103,9 +103,6 @@ total-add (suc n) f g h q =
       total-add n (λ i. f (suc i)) (λ i. g (suc i)) (λ i. h (suc i)) (λ i l. q (suc i) (omega arith)),
     )
 
-pub total-ext : (n : ℕ) (f g : ℕ → ℕ) → ((i : ℕ) → i < n → f i ≡ g i) → total n f ≡ total n g
-total-ext n f g h = ap sum (tab-ext n f g h)
-
 pub count-ext : (n : ℕ) (p q : ℕ → Bool) → ((i : ℕ) → i < n → p i ≡ q i) → count n p ≡ count n q
 count-ext n p q h = ap ones (tab-ext n p q h)
 
@@ -157,12 +154,3 @@ count-some n p h =
     go : (b : Bool) → num b ≢ 0 → b ≡ true
     go true k = refl
     go false k = absurd (k refl)
-
-pub ones-le : (w : List Bool) → ones w ≤ length w
-unfolding ones
-ones-le [] = omega arith
-ones-le (true ∷ w) = omega (arith, ones-le w)
-ones-le (false ∷ w) = omega (arith, ones-le w)
-
-pub count-le : (n : ℕ) (p : ℕ → Bool) → count n p ≤ n
-count-le n p = omega (arith, ones-le (tab n p), tab-length n p)

@@ -102,24 +102,6 @@ unfolding _⊻_ ones
 ⊻-ones (b ∷ w) [] = omega arith
 ⊻-ones (b ∷ w) (c ∷ u) = omega (arith, xor-num b c, ⊻-ones w u)
 
-pub differ-triangle : (w c u : Word) → length w ≡ length c → length c ≡ length u → differ w u ≤ differ w c + differ c u
-unfolding _⊻_ ones xor
-differ-triangle [] [] [] h k = omega arith
-differ-triangle [] [] (y ∷ u) h k = omega arith
-differ-triangle [] (x ∷ c) u h k = absurd (omega arith)
-differ-triangle (b ∷ w) [] u h k = absurd (omega arith)
-differ-triangle (b ∷ w) (x ∷ c) [] h k = omega arith
-differ-triangle (b ∷ w) (x ∷ c) (y ∷ u) h k =
-    omega (arith, through b x y, differ-triangle w c u (omega arith) (omega arith))
-  where
-    through : (b x y : Bool) → num (xor b y) ≤ num (xor b x) + num (xor x y)
-    through true true y = omega arith
-    through true false true = omega arith
-    through true false false = omega arith
-    through false true true = omega arith
-    through false true false = omega arith
-    through false false y = omega arith
-
 -- ---- the values at a word's ones
 
 pub kept-xor : (b c : Bool) (v : ℕ) → kept (xor b c) v ≡ kept b v ⊕ kept c v

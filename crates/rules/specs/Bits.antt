@@ -49,5 +49,5 @@ unfoldable pub bytesOf : ℕ → Frame → List ℕ
 bytesOf n f = tab (squareBytes n) (λ b. byteOf (row f (b / rowBytes n)) (b % rowBytes n))
 
 -- "Bits past the row's end are spare." How many of them are set in n rows of n bits
-unfoldable pub sparesSet : ℕ → List ℕ → ℕ
-sparesSet n s = total n (λ i. count (stride n - n) (λ j. bitAt s (i * stride n + n + j)))
+unfoldable pub spareOnes : ℕ → List ℕ → ℕ
+spareOnes n s = total n (λ i. count (stride n - n) (λ j. bitAt s (i * stride n + n + j)))

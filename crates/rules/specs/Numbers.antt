@@ -7,7 +7,7 @@ use lib.Dec.{eqb, leb, ltb}
 use lib.ListN.{length, take, drop}
 use Rattle.rules.specs.Words.{dataBits, Answer, codeword, onePlace, twoPlaces, beyond, answer, mend}
 use Rattle.rules.specs.Frames.{corner, isFrame, rowsFirst}
-use Rattle.rules.specs.Bits.{rowBytes, squareBytes, wordOf, frameOf, wordBytes, bytesOf, sparesSet}
+use Rattle.rules.specs.Bits.{rowBytes, squareBytes, wordOf, frameOf, wordBytes, bytesOf, spareOnes}
 use Rattle.rules.specs.Passes.{Ending, clean, repaired, stuck, spent, Outcome, decoded}
 
 abbrev pub pick {ℓ} : {A : Type ℓ} → Bool → A → A → A
@@ -54,7 +54,7 @@ sizeRefusals n input takes output gives later = (outside n, 1) ∷ (notLong inpu
 -- "data has a spare bit set (encoding)"
 abbrev pub encodeRefusals : ℕ → List ℕ → List ℕ → RefusalList
 encodeRefusals n input output =
-    sizeRefusals n input (dataBytes n) output (frameBytes n) ((not (eqb (sparesSet (dataBits n) input) 0), 5) ∷ [])
+    sizeRefusals n input (dataBytes n) output (frameBytes n) ((not (eqb (spareOnes (dataBits n) input) 0), 5) ∷ [])
 
 unfoldable pub encodeNumber : ℕ → List ℕ → List ℕ → ℕ
 encodeNumber n input output = first (encodeRefusals n input output)

@@ -1,34 +1,64 @@
 -- The checks of the entry points: when each accepts, which numbers can occur, and what is said and written by the number.
 -- Assumes nothing.
 use mathlib.Core.Path.{_≡_, refl, ap}
-use mathlib.Core.Logic.{_≢_, _↔_, Iff·trans, Iff·rfl, Iff·and}
+use mathlib.Core.Logic.{_≢_, _↔_, _⊎_, inl, inr, Iff·trans, Iff·rfl, Iff·and}
 use mathlib.Core.Bool.{Bool, true, false, not, _&&_, true≢false}
-use mathlib.Core.List.{List, [], _∷_}
+use mathlib.Core.List.{List, [], _∷_, map}
 use Prim.Native.Nat.{ℕ, suc, _≤_}
 use native.Mathlib.Omega.{arith}
 use lib.Dec.{eqb, leb}
-use lib.ListN.{length}
+use lib.ListN.{length, drop}
 use borrow.Author.Tests.{eqb-true, eqb-false, eq-eqb, ne-eqb, leb-true, le-leb, not-false}
 use Rattle.rules.specs.Words.{dataBits, isIn, answer, mend}
 use Rattle.rules.specs.Frames.{isFrame, corner, rowsFirst}
-use Rattle.rules.specs.Bits.{rowBytes, wordOf, frameOf, wordBytes, bytesOf, sparesSet}
-use Rattle.rules.specs.Passes.{Outcome, decoded}
-use Rattle.rules.specs.Passes.{Ending, clean, repaired, stuck, spent, Outcome}
-use Rattle.rules.specs.Numbers.{told, handedOut, ended, number, mostAllowed, pick, outside, notAllowed, notLong, dataBytes, frameBytes, encodeNumber, encodeOutput, readNumber, readOutput, refused, told, handedOut, decodeRefusal, decodeSaid, decodeOutput, wordRefused, answered, wordRefusal, wordSaid, wordNumber, wordOutput}
-use Rattle.rules.proofs.Laws.OneOfLaws.{OneOf, one-of-self, one-of-back}
+use Rattle.rules.specs.Bits.{rowBytes, wordOf, frameOf, wordBytes, bytesOf, spareOnes}
+use Rattle.rules.specs.Passes.{Ending, clean, repaired, stuck, spent, Outcome, decoded}
+use Rattle.rules.specs.Numbers.{told, handedOut, ended, number, mostAllowed, pick, outside, notAllowed, notLong, dataBytes, frameBytes, encodeNumber, encodeOutput, readNumber, readOutput, refused, decodeRefusal, decodeSaid, decodeOutput, wordRefused, answered, wordRefusal, wordSaid, wordNumber, wordOutput, RefusalList, first, sizeRefusals, encodeRefusals, readRefusals, decodeRefusals, wordRefusals}
+use Rattle.rules.proofs.Laws.OneOfLaws.{OneOf, one-of-self, one-of-cons, one-of-back, one-of-front, and-both, allIn}
 
--- ---- one check
+-- ---- a list of checks
 
-pick-zero : (b : Bool) (r x : ℕ) → pick b (suc r) x ≡ 0 → (b ≡ false) × (x ≡ 0)
-pick-zero true r x h = absurd (omega arith)
-pick-zero false r x h = (refl, h)
+abbrev pub numbers : RefusalList → List ℕ
+numbers checks = map (λ check. check .1) checks
 
-zero-pick : (b : Bool) (r x : ℕ) → b ≡ false → x ≡ 0 → pick b r x ≡ 0
-zero-pick b r x e h = rw e h
+-- the number given is 0 or one of the list's
+pub first-in : (checks : RefusalList) → OneOf (first checks) (0 ∷ numbers checks)
+unfolding isIn
+first-in [] = refl
+first-in (check ∷ later) = go (check .0) (first-in later)
+  where
+    x : ℕ
+    x = check .1
 
-pick-in : (b : Bool) (r x : ℕ) (l : List ℕ) → OneOf r l → OneOf x l → OneOf (pick b r x) l
-pick-in true r x l hr hx = hr
-pick-in false r x l hr hx = hx
+    others : List ℕ
+    others = numbers later
+
+    skip : (first later ≡ 0) ⊎ OneOf (first later) others → OneOf (first later) (0 ∷ x ∷ others)
+    skip (inl e) = rw e refl
+    skip (inr h) = one-of-back (first later) (0 ∷ x ∷ []) others h
+
+    go : (b : Bool) → OneOf (first later) (0 ∷ others) → OneOf (pick b x (first later)) (0 ∷ x ∷ others)
+    go true h = one-of-back x (0 ∷ []) (x ∷ others) (one-of-front x (x ∷ []) others (one-of-self x))
+    go false h = skip (one-of-cons (first later) 0 others h)
+
+-- no check applies
+abbrev pub Clear : RefusalList → Type 0
+Clear [] = Unit {0}
+Clear (check ∷ later) = (check .0 ≡ false) × Clear later
+
+-- 0 is given exactly if none does
+pub first-clear : (checks : RefusalList) → allIn 1 9 (numbers checks) ≡ true → (first checks ≡ 0) ↔ Clear checks
+unfolding allIn
+first-clear [] h = (λ e. tt, λ e. refl)
+first-clear (check ∷ later) h =
+    let t = and-both (leb 1 (check .1) && leb (check .1) 9) (allIn 1 9 (numbers later)) h in
+    go (check .0) (leb-true 1 (check .1) (and-both (leb 1 (check .1)) (leb (check .1) 9) (t .0) .0)) (first-clear later (t .1))
+  where
+    go :
+        (b : Bool) → 1 ≤ check .1 → (first later ≡ 0) ↔ Clear later
+        → (pick b (check .1) (first later) ≡ 0) ↔ ((b ≡ false) × Clear later)
+    go true some rest = (λ e. absurd (omega arith), λ e. absurd (true≢false (e .0)))
+    go false some rest = (λ e. (refl, rest .0 e), λ e. rest .1 (e .1))
 
 -- ---- the tests: a check that doesn't apply
 
@@ -50,15 +80,6 @@ true-test b = (not-false b, λ h. ap not h)
 
 -- ---- the checks that every entry point begins with
 
-abbrev pub lent-checked : List ℕ → ℕ → ℕ → ℕ
-lent-checked output b rest = pick (notLong output b) 3 rest
-
-abbrev pub both-checked : List ℕ → ℕ → List ℕ → ℕ → ℕ → ℕ
-both-checked input a output b rest = pick (notLong input a) 2 (lent-checked output b rest)
-
-abbrev pub checked : ℕ → List ℕ → ℕ → List ℕ → ℕ → ℕ → ℕ
-checked n input a output b rest = pick (outside n) 1 (both-checked input a output b rest)
-
 -- n is 18..256, the input has a bytes and the output b
 pub record Sized (n : ℕ) (input : List ℕ) (a : ℕ) (output : List ℕ) (b : ℕ) : Type 0 where
   pub from : 18 ≤ n
@@ -66,81 +87,67 @@ pub record Sized (n : ℕ) (input : List ℕ) (a : ℕ) (output : List ℕ) (b :
   pub taken : length input ≡ a
   pub lent : length output ≡ b
 
-module _ (n : ℕ) (input : List ℕ) (a : ℕ) (output : List ℕ) (b : ℕ) where
-  pub checked-accepts : (rest : ℕ) → (checked n input a output b rest ≡ 0) ↔ (Sized n input a output b × (rest ≡ 0))
-  checked-accepts rest = (there, back)
-    where
-      there : checked n input a output b rest ≡ 0 → Sized n input a output b × (rest ≡ 0)
-      there h =
-          let p₁ = pick-zero (outside n) 0 (both-checked input a output b rest) h in
-          let p₂ = pick-zero (notLong input a) 1 (lent-checked output b rest) (p₁ .1) in
-          let p₃ = pick-zero (notLong output b) 2 rest (p₂ .1) in
-          let r = range-test 18 256 n .0 (p₁ .0) in
-          let f : Sized n input a output b =
-          record {
-            from = r .0;
-            upTo = r .1;
-            taken = equal-test (length input) a .0 (p₂ .0);
-            lent = equal-test (length output) b .0 (p₃ .0);
-          } in
-          (f, p₃ .1)
+sized :
+    (n : ℕ) (input : List ℕ) (a : ℕ) (output : List ℕ) (b : ℕ) (later : RefusalList)
+    → Clear (sizeRefusals n input a output b later) ↔ (Sized n input a output b × Clear later)
+sized n input a output b later = (
+  λ c.
+      let r = range-test 18 256 n .0 (c .0) in
+      let f : Sized n input a output b =
+      record {
+        from = r .0;
+        upTo = r .1;
+        taken = equal-test (length input) a .0 (c .1 .0);
+        lent = equal-test (length output) b .0 (c .1 .1 .0);
+      } in
+      (f, c .1 .1 .1),
+  λ p.
+      let f = p .0 in (
+        range-test 18 256 n .1 (f .from, f .upTo),
+        (equal-test (length input) a .1 (f .taken), (equal-test (length output) b .1 (f .lent), p .1)),
+      ),
+)
 
-      back : Sized n input a output b × (rest ≡ 0) → checked n input a output b rest ≡ 0
-      back (f, h) =
-          zero-pick (outside n) 1 (both-checked input a output b rest) (range-test 18 256 n .1 (f .from, f .upTo))
-          (zero-pick (notLong input a) 2 (lent-checked output b rest) (equal-test (length input) a .1 (f .taken))
-          (zero-pick (notLong output b) 3 rest (equal-test (length output) b .1 (f .lent)) h))
-
-  -- with one check more
-  pub last-accepts :
-      (c : Bool) (r : ℕ) → (checked n input a output b (pick c (suc r) 0) ≡ 0) ↔ (Sized n input a output b × (c ≡ false))
-  last-accepts c r =
-      Iff·trans (checked-accepts (pick c (suc r) 0))
-      (Iff·and Iff·rfl (λ h. pick-zero c r 0 h .0, λ h. zero-pick c (suc r) 0 h refl))
-
-  pub checked-in : (rest : ℕ) (l : List ℕ) → OneOf 1 l → OneOf 2 l → OneOf 3 l → OneOf rest l → OneOf (checked n input a output b rest) l
-  checked-in rest l h₁ h₂ h₃ h =
-      pick-in (outside n) 1 (both-checked input a output b rest) l h₁
-      (pick-in (notLong input a) 2 (lent-checked output b rest) l h₂ (pick-in (notLong output b) 3 rest l h₃ h))
-
-  pub last-in : (c : Bool) (r : ℕ) → OneOf (checked n input a output b (pick c r 0)) (0 ∷ 1 ∷ 2 ∷ 3 ∷ r ∷ [])
-  unfolding isIn
-  last-in c r =
-      let l : List ℕ = 0 ∷ 1 ∷ 2 ∷ 3 ∷ r ∷ [] in
-      checked-in (pick c r 0) l refl refl refl (pick-in c r 0 l (one-of-back r (0 ∷ 1 ∷ 2 ∷ 3 ∷ []) (r ∷ []) (one-of-self r)) refl)
+-- one check more
+alone : {X : Type 0} (t : Bool) (r : ℕ) → (t ≡ false) ↔ X → Clear ((t, r) ∷ []) ↔ X
+alone t r h = (λ c. h .0 (c .0), λ x. (h .1 x, tt))
 
 -- ---- when each entry point accepts
 
 pub encode-accepts :
     (n : ℕ) (input output : List ℕ)
-    → (encodeNumber n input output ≡ 0) ↔ (Sized n input (dataBytes n) output (frameBytes n) × (sparesSet (dataBits n) input ≡ 0))
-unfolding encodeNumber
+    → (encodeNumber n input output ≡ 0) ↔ (Sized n input (dataBytes n) output (frameBytes n) × (spareOnes (dataBits n) input ≡ 0))
+unfolding encodeNumber allIn
 encode-accepts n input output =
-    Iff·trans (last-accepts n input (dataBytes n) output (frameBytes n) (not (eqb (sparesSet (dataBits n) input) 0)) 4)
-    (Iff·and Iff·rfl (equal-test (sparesSet (dataBits n) input) 0))
+    Iff·trans (first-clear (encodeRefusals n input output) refl)
+    (Iff·trans (sized n input (dataBytes n) output (frameBytes n) (drop 3 (encodeRefusals n input output)))
+    (Iff·and Iff·rfl (alone (not (eqb (spareOnes (dataBits n) input) 0)) 5 (equal-test (spareOnes (dataBits n) input) 0))))
 
 pub read-accepts :
     (n : ℕ) (input output : List ℕ)
     → (readNumber n input output ≡ 0) ↔ (Sized n input (frameBytes n) output (dataBytes n) × (isFrame n (frameOf n input) ≡ true))
-unfolding readNumber
+unfolding readNumber allIn
 read-accepts n input output =
-    Iff·trans (last-accepts n input (frameBytes n) output (dataBytes n) (not (isFrame n (frameOf n input))) 5)
-    (Iff·and Iff·rfl (true-test (isFrame n (frameOf n input))))
+    Iff·trans (first-clear (readRefusals n input output) refl)
+    (Iff·trans (sized n input (frameBytes n) output (dataBytes n) (drop 3 (readRefusals n input output)))
+    (Iff·and Iff·rfl (alone (not (isFrame n (frameOf n input))) 6 (true-test (isFrame n (frameOf n input))))))
 
 pub decode-accepts :
     (n allowance : ℕ) (input output : List ℕ)
     → (decodeRefusal n allowance input output ≡ 0)
     ↔ (Sized n input (frameBytes n) output (frameBytes n) × ((1 ≤ allowance) × (allowance ≤ mostAllowed)))
-unfolding decodeRefusal
+unfolding decodeRefusal allIn
 decode-accepts n allowance input output =
-    Iff·trans (last-accepts n input (frameBytes n) output (frameBytes n) (notAllowed allowance) 3)
-    (Iff·and Iff·rfl (range-test 1 mostAllowed allowance))
+    Iff·trans (first-clear (decodeRefusals n allowance input output) refl)
+    (Iff·trans (sized n input (frameBytes n) output (frameBytes n) (drop 3 (decodeRefusals n allowance input output)))
+    (Iff·and Iff·rfl (alone (notAllowed allowance) 4 (range-test 1 mostAllowed allowance))))
 
 pub word-accepts :
     (n : ℕ) (input output : List ℕ) → (wordRefusal n input output ≡ 0) ↔ Sized n input (rowBytes n) output (rowBytes n)
-unfolding wordRefusal
+unfolding wordRefusal allIn
 word-accepts n input output =
-    Iff·trans (checked-accepts n input (rowBytes n) output (rowBytes n) 0) (λ h. h .0, λ f. (f, refl))
+    Iff·trans (first-clear (wordRefusals n input output) refl)
+    (Iff·trans (sized n input (rowBytes n) output (rowBytes n) []) (λ h. h .0, λ f. (f, tt)))
 
 -- ---- what is said or written, by the number
 

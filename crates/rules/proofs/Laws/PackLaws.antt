@@ -16,7 +16,7 @@ use Rattle.algebra.specs.Words.{Word, bit}
 use Rattle.algebra.specs.Remainder.{isOdd}
 use Rattle.algebra.proofs.TableLaws.{tab-length, tab-at, tab-past, tab-is, total-zero, zero-total, total-some, count-zero, zero-count, count-some}
 use Rattle.rules.specs.Frames.{Frame, row, cell}
-use Rattle.rules.specs.Bits.{rowBytes, stride, squareBytes, bitAt, wordOf, frameOf, byteOf, wordBytes, bytesOf, sparesSet}
+use Rattle.rules.specs.Bits.{rowBytes, stride, squareBytes, bitAt, wordOf, frameOf, byteOf, wordBytes, bytesOf, spareOnes}
 use Rattle.rules.proofs.Laws.Shape.{Square, word-ext, square-ext, bit-past, frameOf-square, frameOf-cell, wordOf-length, wordOf-bit}
 use Rattle.rules.proofs.Laws.BitLaws.{bytes-ext, byteOf-lt, byteOf-digit, bitAt-split}
 
@@ -110,8 +110,8 @@ row-of-bytes n f i h =
 
 -- ---- spare bits
 
-pub spares-of-bytes : (n : ℕ) (f : Frame) → Square n f → sparesSet n (bytesOf n f) ≡ 0
-unfolding sparesSet
+pub spares-of-bytes : (n : ℕ) (f : Frame) → Square n f → spareOnes n (bytesOf n f) ≡ 0
+unfolding spareOnes
 spares-of-bytes n f s =
     zero-total n (λ i. count (stride n - n) (λ j. bitAt (bytesOf n f) (i * stride n + n + j)))
     (λ i hi. zero-count (stride n - n) (λ j. bitAt (bytesOf n f) (i * stride n + n + j))
@@ -119,8 +119,8 @@ spares-of-bytes n f s =
     let e : i * stride n + n + j ≡ i * stride n + (n + j) = omega arith in
     ap (bitAt (bytesOf n f)) e ∙ bytesOf-bit n f i (n + j) hi (omega arith) ∙ bit-past (row f i) (n + j) (omega (arith, s .1 i hi))))
 
-pub spare-zero : (n : ℕ) (s : List ℕ) → sparesSet n s ≡ 0 → (i j : ℕ) → i < n → n ≤ j → j < stride n → bitAt s (i * stride n + j) ≡ false
-unfolding sparesSet
+pub spare-zero : (n : ℕ) (s : List ℕ) → spareOnes n s ≡ 0 → (i j : ℕ) → i < n → n ≤ j → j < stride n → bitAt s (i * stride n + j) ≡ false
+unfolding spareOnes
 spare-zero n s z i j hi lo hi' =
     let e : i * stride n + j ≡ i * stride n + n + (j - n) = omega arith in
     ap (bitAt s) e
@@ -128,9 +128,9 @@ spare-zero n s z i j hi lo hi' =
     (total-zero n (λ i. count (stride n - n) (λ j. bitAt s (i * stride n + n + j))) z i hi) (j - n) (omega arith)
 
 pub spare-some :
-    (n : ℕ) (s : List ℕ) → sparesSet n s ≢ 0
+    (n : ℕ) (s : List ℕ) → spareOnes n s ≢ 0
     → (i : ℕ) × (j : ℕ) × (i < n) × (n ≤ j) × (j < stride n) × (bitAt s (i * stride n + j) ≡ true)
-unfolding sparesSet
+unfolding spareOnes
 spare-some n s h =
     let t = total-some n (λ i. count (stride n - n) (λ j. bitAt s (i * stride n + n + j))) h in
     let i : ℕ = t .0 in
@@ -148,7 +148,7 @@ spare-free n s t h =
     (λ i j hi hj. frameOf-cell n s i j hi hj ∙ h i j hi hj ∙ sym (frameOf-cell n t i j hi hj))
 
 -- bytes without set spare bits are what their frame is written as
-pub bytes-of-frame : (n : ℕ) (s : List ℕ) → length s ≡ squareBytes n → ((p : ℕ) → getD s p 0 < 256) → sparesSet n s ≡ 0 → bytesOf n (frameOf n s) ≡ s
+pub bytes-of-frame : (n : ℕ) (s : List ℕ) → length s ≡ squareBytes n → ((p : ℕ) → getD s p 0 < 256) → spareOnes n s ≡ 0 → bytesOf n (frameOf n s) ≡ s
 bytes-of-frame n s e b z =
     bytes-ext n (rowBytes n) (bytesOf n (frameOf n s)) s (bytesOf-length n (frameOf n s)) e (bytesOf-byte n (frameOf n s)) b
     (λ i j hi hj. bytesOf-bit n (frameOf n s) i j hi hj ∙ go i j hi hj (decLt j n))

@@ -1,11 +1,10 @@
 -- One step of the passes, by its ending; words of one direction under a pass.
 -- Assumes nothing.
 use mathlib.Core.Path.{_≡_, refl, ap, ap₂, _∙_}
-use mathlib.Core.Bool.{Bool, true, false, cond}
+use mathlib.Core.Bool.{Bool, true, false}
 use Prim.Native.Nat.{ℕ, suc, _<_}
 use lib.ListN.{length}
 use Rattle.algebra.specs.Words.{Word}
-use Rattle.algebra.specs.Remainder.{isOdd}
 use Rattle.algebra.proofs.TableLaws.{tab-length}
 use Rattle.rules.specs.Words.{answer, places, mend}
 use Rattle.rules.specs.Frames.{Frame, Square, row, transposed, isFrame}
@@ -133,10 +132,6 @@ passColumns-row n f j h =
     (transposed-twice n (passRows n (transposed n f)) (passRows-square n (transposed n f) (transposed-square n f)))
     ∙ passRows-row n (transposed n f) j h
 
-pub pass-square : (n p : ℕ) (f : Frame) → Square n f → Square n (pass n p f)
-unfolding pass passColumns
-pass-square n p f s = go (isOdd p)
-  where
-    go : (b : Bool) → Square n (cond b (passRows n f) (passColumns n f))
-    go true = passRows-square n f s
-    go false = transposed-square n (passRows n (transposed n f))
+pub passColumns-square : (n : ℕ) (f : Frame) → Square n (passColumns n f)
+unfolding passColumns
+passColumns-square n f = transposed-square n (passRows n (transposed n f))

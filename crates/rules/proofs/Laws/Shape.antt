@@ -14,7 +14,6 @@ use Rattle.rules.specs.Frames.{Frame, row, cell, transposed, corner}
 pub use Rattle.rules.specs.Frames.{Square}
 use Rattle.rules.specs.Bits.{stride, bitAt, wordOf, frameOf}
 
--- n rows of n bits
 -- ---- known by their bits
 
 pub word-ext : (n : ℕ) (w u : Word) → length w ≡ n → length u ≡ n → ((j : ℕ) → j < n → bit w j ≡ bit u j) → w ≡ u

@@ -11,7 +11,7 @@ use borrow.Author.Tests.{eqb-true, eqb-false, not-true, not-false}
 use Rattle.algebra.specs.Words.{Word}
 use Rattle.rules.specs.Words.{dataBits, Answer, codeword, onePlace, twoPlaces, beyond, answer, places, isIn, changed, mend}
 use Rattle.rules.specs.Frames.{Frame, isFrame}
-use Rattle.rules.specs.Bits.{rowBytes, wordOf, frameOf, wordBytes, bytesOf, sparesSet}
+use Rattle.rules.specs.Bits.{rowBytes, wordOf, frameOf, wordBytes, bytesOf, spareOnes}
 use Rattle.rules.specs.Passes.{Ending, clean, repaired, stuck, spent, Outcome, decoded}
 use Rattle.rules.specs.Numbers.{pick, outside, notAllowed, notLong, frameBytes, dataBytes, RefusalList, first, sizeRefusals, encodeNumber, encodeOutput, readNumber, readOutput, Decoded, refused, ended, told, handedOut, decodeRefusal, decodeSaid, decodeOutput, Figures, figuresOf, WordSaid, wordRefused, answered, wordRefusal, wordSaid, wordNumber, wordOutput, rowPart, Exit, encode, read, decode, decodeWord}
 use Rattle.rules.proofs.Laws.Shape.{frameOf-square, wordOf-length}
@@ -93,13 +93,13 @@ encode-given : (n : ℕ) (input output : List ℕ) → Given (encodeReasons n in
 unfolding encodeNumber
 encode-given n input output =
     let k : ℕ = dataBits n in
-    let c : Bool = eqb (sparesSet k input) 0 in
+    let c : Bool = eqb (spareOnes k input) 0 in
     sizes-given n input (dataBytes n) output (frameBytes n) ((not c, 5) ∷ []) ((SpareSet k input, 5) ∷ [])
-    (given-first (not c) 5 0 (SpareSet k input) [] (λ e. spare-some k input (eqb-false (sparesSet k input) 0 (not-true c e)))
+    (given-first (not c) 5 0 (SpareSet k input) [] (λ e. spare-some k input (eqb-false (spareOnes k input) 0 (not-true c e)))
     (λ e t.
     true≢false
     (sym (t .5)
-    ∙ spare-zero k input (eqb-true (sparesSet k input) 0 (not-false c e)) (t .0) (t .1) (t .2) (t .3) (t .4)))
+    ∙ spare-zero k input (eqb-true (spareOnes k input) 0 (not-false c e)) (t .0) (t .1) (t .2) (t .3) (t .4)))
     refl)
 
 read-given : (n : ℕ) (input output : List ℕ) → Given (readReasons n input output) (readNumber n input output)

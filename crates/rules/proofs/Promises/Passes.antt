@@ -16,7 +16,7 @@ use Rattle.rules.specs.Frames.{Frame, Square, row, transposed, badRows, 
 use Rattle.rules.specs.Passes.{passRows, passColumns, pass, differences, counted, isStuck, passesFrom, decoded}
 use Rattle.rules.specs.Passes.{Ending, clean, repaired, stuck, spent, Outcome}
 use Rattle.rules.proofs.Laws.PassLaws.{decoded-clean, decoded-passes, step-repaired, step-stuck, step-on, step-spent}
-use Rattle.rules.proofs.Laws.PassLaws.{passRows-row, passColumns-row, pass-square}
+use Rattle.rules.proofs.Laws.PassLaws.{passRows-row, passColumns-row, passRows-square, passColumns-square}
 
 -- ---- The statement
 
@@ -87,8 +87,13 @@ unfolding after
 after-none n f = refl
 
 after-square : (n : ℕ) (f : Frame) → Square n f → (p : ℕ) → Square n (after n f p)
-after-square n f s zero = rw (← after-none n f) s
-after-square n f s (suc p) = rw (← pass-after n f p) (pass-square n (suc p) (after n f p) (after-square n f s p))
+unfolding after
+after-square n f s zero = s
+after-square n f s (suc p) = go (isOdd (suc p)) (after-square n f s p)
+  where
+    go : (b : Bool) → Square n (after n f p) → Square n (cond b (passRows n (after n f p)) (passColumns n (after n f p)))
+    go true before = passRows-square n (after n f p) before
+    go false before = passColumns-square n (after n f p)
 
 no-true : {b : Bool} → (¬ (b ≡ true)) ↔ (b ≡ false)
 no-true = not-eq-not {b = false}

@@ -14,11 +14,11 @@ use lib.Seq.{length-take-le}
 use borrow.Author.Tests.{ltb-true, lt-ltb, not-false}
 use Rattle.rules.specs.Words.{dataBits, Answer, codeword, onePlace, twoPlaces, beyond, answer, mend, isIn}
 use Rattle.rules.specs.Frames.{isFrame, corner, rowsFirst}
-use Rattle.rules.specs.Bits.{rowBytes, wordOf, frameOf, wordBytes, bytesOf, sparesSet}
+use Rattle.rules.specs.Bits.{rowBytes, wordOf, frameOf, wordBytes, bytesOf, spareOnes}
 use Rattle.rules.specs.Passes.{Ending, clean, repaired, stuck, spent, Outcome, decoded}
-use Rattle.rules.specs.Numbers.{pick, outside, notLong, notAllowed, dataBytes, frameBytes, encodeNumber, encodeOutput, readNumber, readOutput, refused, told, handedOut, decodeRefusal, decodeSaid, decodeOutput, ended, number, wordRefused, answered, wordRefusal, wordSaid, wordNumber, wordOutput, rowRefused, rowPart}
+use Rattle.rules.specs.Numbers.{pick, outside, notLong, notAllowed, dataBytes, frameBytes, encodeNumber, encodeOutput, readNumber, readOutput, refused, told, handedOut, decodeRefusal, decodeSaid, decodeOutput, ended, number, wordRefused, answered, wordRefusal, wordSaid, wordNumber, wordOutput, rowRefused, rowPart, encodeRefusals, readRefusals, decodeRefusals, wordRefusals}
 use Rattle.rules.proofs.Laws.PackLaws.{bytesOf-length, wordBytes-length}
-use Rattle.rules.proofs.Laws.NumberLaws.{range-test, equal-test, checked-in, last-in, encode-accepts, read-accepts, decode-accepts, word-accepts, handed, at-zero, at-other, at-either}
+use Rattle.rules.proofs.Laws.NumberLaws.{range-test, equal-test, first-in, encode-accepts, read-accepts, decode-accepts, word-accepts, handed, at-zero, at-other, at-either}
 use Rattle.rules.proofs.Laws.OneOfLaws.{OneOf, one-of-cons, one-of-back, one-of-front, allIn, one-of-range}
 
 -- the table's rows for one entry point: the number given, and what the output holds then
@@ -155,7 +155,7 @@ decode-table n allowance input output =
     let o : Outcome = decoded n allowance (frameOf n input) in
     table (1 ∷ 2 ∷ 3 ∷ 4 ∷ []) (7 ∷ 8 ∷ []) refl refl r (number (told o)) (number (decodeSaid n allowance input output))
     (handedOut n input o) (bytesOf n (o .last)) input output (pick-ap number (eqb r 0) (told o) (refused r))
-    (last-in n input (frameBytes n) output (frameBytes n) (notAllowed allowance) 4) (ending-in (o .ending) (o .passes) (o .flips) (o .rows) (o .columns))
+    (first-in (decodeRefusals n allowance input output)) (ending-in (o .ending) (o .passes) (o .flips) (o .rows) (o .columns))
     (λ z. handed n input o)
     (λ z.
     let f = decode-accepts n allowance input output .0 z .0 in
@@ -165,7 +165,7 @@ decode-table n allowance input output =
 
 word-in : (n : ℕ) (input output : List ℕ) → OneOf (wordRefusal n input output) (0 ∷ 1 ∷ 2 ∷ 3 ∷ [])
 unfolding wordRefusal isIn
-word-in n input output = checked-in n input (rowBytes n) output (rowBytes n) 0 (0 ∷ 1 ∷ 2 ∷ 3 ∷ []) refl refl refl refl
+word-in n input output = first-in (wordRefusals n input output)
 
 answer-in : (a : Answer) → OneOf (wordNumber (answered a)) (0 ∷ 9 ∷ [])
 unfolding isIn
@@ -241,11 +241,11 @@ unfolding encodeNumber encodeOutput readNumber readOutput allIn
 refuses = record {
   encode = λ n input output.
       let new : List ℕ = bytesOf n (rowsFirst n (frameOf (dataBits n) input)) in
-      plain (1 ∷ 2 ∷ 3 ∷ 5 ∷ []) refl (encodeNumber n input output) new input output (last-in n input (dataBytes n) output (frameBytes n) (not (eqb (sparesSet (dataBits n) input) 0)) 5)
+      plain (1 ∷ 2 ∷ 3 ∷ 5 ∷ []) refl (encodeNumber n input output) new input output (first-in (encodeRefusals n input output))
       (λ z. bytesOf-length n (rowsFirst n (frameOf (dataBits n) input)) ∙ sym (encode-accepts n input output .0 z .0 .lent));
   read = λ n input output.
       let new : List ℕ = bytesOf (dataBits n) (corner (dataBits n) (frameOf n input)) in
-      plain (1 ∷ 2 ∷ 3 ∷ 6 ∷ []) refl (readNumber n input output) new input output (last-in n input (frameBytes n) output (dataBytes n) (not (isFrame n (frameOf n input))) 6)
+      plain (1 ∷ 2 ∷ 3 ∷ 6 ∷ []) refl (readNumber n input output) new input output (first-in (readRefusals n input output))
       (λ z. bytesOf-length (dataBits n) (corner (dataBits n) (frameOf n input)) ∙ sym (read-accepts n input output .0 z .0 .lent));
   decode = decode-table;
   word = word-table;

@@ -8,7 +8,7 @@ use Prim.Native.Nat.{ℕ, _≤_, _<_}
 use lib.ListN.{length, getD}
 use Rattle.rules.specs.Words.{dataBits}
 use Rattle.rules.specs.Frames.{Frame, isFrame, corner, rowsFirst}
-use Rattle.rules.specs.Bits.{frameOf, bytesOf, sparesSet}
+use Rattle.rules.specs.Bits.{frameOf, bytesOf, spareOnes}
 use Rattle.rules.specs.Passes.{clean, Outcome, good, decoded}
 use Rattle.rules.specs.Numbers.{mostAllowed, dataBytes, frameBytes, encodeNumber, encodeOutput, readNumber, readOutput, refused, ended, told, handedOut, decodeRefusal, decodeSaid, decodeOutput}
 use Rattle.rules.proofs.Laws.Shape.{frameOf-square}
@@ -27,7 +27,7 @@ pub record Trip (n : ℕ) (input output : List ℕ) : Type 0 where
   -- so what is said below of any such list is said of what was written
   pub received : Received n input output (encodeOutput n input output)
   -- "The encoder writes spare bits as zero"
-  pub spares : sparesSet n (encodeOutput n input output) ≡ 0
+  pub spares : spareOnes n (encodeOutput n input output) ≡ 0
   -- the input's entries are bytes: "Reading data takes no notice of the frame's spare bits and writes the data's as zero."
   pub reads :
       ((p : ℕ) → getD input p 0 < 256) → (s back : List ℕ) → Received n input output s → length back ≡ dataBytes n
@@ -41,7 +41,7 @@ pub record RoundTrips : Type 0 where
   -- encoding is refused only for n, for a size or for a spare bit
   pub accepts :
       (n : ℕ) (input output : List ℕ)
-      → (encodeNumber n input output ≡ 0) ↔ (Sized n input (dataBytes n) output (frameBytes n) × (sparesSet (dataBits n) input ≡ 0))
+      → (encodeNumber n input output ≡ 0) ↔ (Sized n input (dataBytes n) output (frameBytes n) × (spareOnes (dataBits n) input ≡ 0))
   pub trip :
       (n : ℕ) (input output : List ℕ) → encodeNumber n input output ≡ 0 → Trip n input output
 
@@ -76,7 +76,7 @@ abbrev pub frame : ℕ → List ℕ → Frame
 frame n input = rowsFirst n (frameOf (dataBits n) input)
 
 module _ (n : ℕ) (input output : List ℕ) (zero : encodeNumber n input output ≡ 0) where
-  pub accepted : Sized n input (dataBytes n) output (frameBytes n) × (sparesSet (dataBits n) input ≡ 0)
+  pub accepted : Sized n input (dataBytes n) output (frameBytes n) × (spareOnes (dataBits n) input ≡ 0)
   accepted = encode-accepts n input output .0 zero
 
   pub encoded : Encoded n (frameOf (dataBits n) input)
@@ -100,7 +100,7 @@ trip-here n input output zero =
     record {
       written = w;
       received = (ap length w ∙ bytesOf-length n f, refl);
-      spares = ap (sparesSet n) w ∙ spares-of-bytes n f (e .square);
+      spares = ap (spareOnes n) w ∙ spares-of-bytes n f (e .square);
       reads = λ bytes s back r h.
           let p = read-frame n s (a .0 .from) (a .0 .upTo) (r .0) f (is-frame n input output zero s (r .1)) (e .frame) back h in
           (p .0, p .1 ∙ ap (bytesOf (dataBits n)) (e .holds) ∙ bytes-of-frame (dataBits n) input (a .0 .taken) bytes (a .1));
