@@ -2,6 +2,8 @@
 pub mod Shape
 pub mod BitLaws
 pub mod PackLaws
+-- The field
+pub mod FieldLaws
 -- Words
 pub mod CheckLaws
 pub mod PowerSumLaws

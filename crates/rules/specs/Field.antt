@@ -1,7 +1,11 @@
 -- Document 01, "Field and word": the field.
+use mathlib.Core.Bool.{true, false}
 use mathlib.Core.List.{List, [], _∷_}
-use Prim.Native.Nat.{ℕ, _+_, _*_, _^_}
+use Prim.Native.Nat.{ℕ, zero, suc, _+_, _*_, _^_}
+use lib.Dec.{eqb}
 use Rattle.algebra.specs.Register.{iter, turn}
+use Rattle.algebra.specs.Linear.{lin}
+use Rattle.algebra.specs.Tables.{tab}
 use Rattle.algebra.specs.Sums.{xsum}
 
 -- the polynomial with these exponents: its coefficients are the number's binary digits
@@ -24,6 +28,19 @@ timesA x = turn 7 (poly (4 ∷ 3 ∷ 2 ∷ 0 ∷ [])) x
 -- a^e
 unfoldable pub power : ℕ → ℕ
 power e = iter e timesA 1
+
+-- the least exponent from e on whose power is x, among the next `left`; 0 where there is none
+unfoldable pub exponent : ℕ → ℕ → ℕ → ℕ
+exponent zero e x = 0
+exponent (suc left) e x = elim (eqb (power e) x) [ true ↦ e | false ↦ exponent left (suc e) x ]
+
+-- "a^255 = 1", so all logarithms lie below 255; 0 has none
+unfoldable pub logarithm : ℕ → ℕ
+logarithm x = exponent 255 0 x
+
+-- the product with the sum of the a^i at y's ones
+unfoldable pub product : ℕ → ℕ → ℕ
+product x y = lin (tab 8 (λ i. iter i timesA x)) y
 
 -- the value at a^r of the polynomial with these exponents
 unfoldable pub valueAt : ℕ → List ℕ → ℕ

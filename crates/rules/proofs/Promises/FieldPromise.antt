@@ -1,12 +1,11 @@
 -- Document 01's sentences on the field, and on g.
 -- Assumes nothing.
-use mathlib.Core.Path.{_≡_, refl, sym, _∙_}
+use mathlib.Core.Path.{_≡_, refl, _∙_}
 use mathlib.Core.Logic.{_≢_}
 use mathlib.Core.List.{List, [], _∷_}
-use Prim.Native.Nat.{ℕ, _*_, _≤_, _<_}
+use Prim.Native.Nat.{ℕ, _+_, _*_, _≤_, _<_}
 use native.Mathlib.Omega.{arith}
 use lib.Dec.{lit<}
-use lib.ListN.{getD}
 use Rattle.algebra.specs.Xor.{_⊕_}
 use Rattle.algebra.specs.Linear.{lin}
 use Rattle.algebra.specs.LogTables.{Tables}
@@ -17,9 +16,10 @@ use Rattle.algebra.specs.Sums.{xsum}
 use Rattle.algebra.specs.Field256.{powers, logs}
 use Rattle.algebra.proofs.LinearLaws.{lin-additive, agrees}
 use Rattle.algebra.proofs.Inverse.{rebuilt, inverse-tested}
-use Rattle.algebra.proofs.Field256Laws.{tables256, powers256-at, round256, powers256-logs, logs256-lt}
-use Rattle.rules.specs.Field.{poly, minimal₁, minimal₃, timesA, power, valueAt}
+use Rattle.algebra.proofs.Field256Laws.{tables256, round256}
+use Rattle.rules.specs.Field.{poly, minimal₁, minimal₃, timesA, power, logarithm, product, valueAt}
 use Rattle.rules.specs.Words.{g}
+use Rattle.rules.proofs.Laws.FieldLaws.{power-is, logarithm-small, logarithm-zero, power-logarithm, product-powers, product-zero-left, product-zero-right}
 
 -- the value at a^r of the polynomial of degree below 8 with the binary digits of x
 unfoldable pub lowValue : ℕ → ℕ → ℕ
@@ -42,12 +42,14 @@ pub record FieldPromise : Type 0 where
   pub least : (x : ℕ) → 1 ≤ x → x < 256 → lowValue 3 x ≢ 0
   -- "The powers and logarithms are kept as tables .. whose rule is shown once for the whole table."
   pub tables : Tables 7 29 powers logs
+  -- the logarithm of each byte but 0 is the exponent below 255 of which it is the power; 0 has none, and 0 stands for it
+  pub logarithms : (x : ℕ) → x ≢ 0 → x < 256 → (logarithm x < 255) × (power (logarithm x) ≡ x)
+  pub none : logarithm 0 ≡ 0
+  -- the product of two powers is the power of the sum of their exponents, and 0 times anything is 0
+  pub products : (i j : ℕ) → product (power i) (power j) ≡ power (i + j)
+  pub zeros : (x : ℕ) → (product 0 x ≡ 0) × (product x 0 ≡ 0)
   -- "The product of the two is g"
-  pub product : times (poly minimal₁) 0 (binary 9 (poly minimal₃)) ≡ g
-
-power-is : (e : ℕ) → power e ≡ iter e (turn 7 29) 1
-unfolding power timesA poly
-power-is e = refl
+  pub generator : times (poly minimal₁) 0 (binary 9 (poly minimal₃)) ≡ g
 
 -- the columns of the map that takes `lowValue 3` back
 back : List ℕ
@@ -68,11 +70,13 @@ field-promise =
       root₁ = refl;
       listed = refl;
       round = power-is 255 ∙ round256;
-      whole = λ x lo hi.
-          let e : ℕ = getD logs x 0 in
-          (e, logs256-lt x lo hi, power-is e ∙ sym (powers256-at e (logs256-lt x lo hi)) ∙ powers256-logs x lo hi);
+      whole = λ x lo hi. (logarithm x, logarithm-small x, power-logarithm x (omega arith) hi);
       root₃ = refl;
       least = least-here;
       tables = tables256;
-      product = refl;
+      logarithms = λ x n h. (logarithm-small x, power-logarithm x n h);
+      none = logarithm-zero;
+      products = product-powers;
+      zeros = λ x. (product-zero-left x, product-zero-right x);
+      generator = refl;
     }

@@ -1,0 +1,20 @@
+// The field of 256 elements.
+pub mod logs;
+pub mod powers;
+
+pub use logs::log;
+pub use powers::power;
+ghost use mathlib.Core.Path.{_≡_};
+ghost use Rattle.rules.specs.Field.{product};
+
+pub fn product(x: u8, y: u8) -> u8
+    ensures { λ r. ⌜ r ≡ product x y ⌝ }
+{
+    if x == 0 {
+        return 0;
+    }
+    if y == 0 {
+        return 0;
+    }
+    power(log(x) + log(y))
+}

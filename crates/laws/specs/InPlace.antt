@@ -1,0 +1,33 @@
+-- A word anywhere in a buffer, by the bit that it starts at and the step from bit to bit, and bits changed in place.
+use mathlib.Core.Bool.{Bool, cond, xor}
+use mathlib.Core.List.{List}
+use Prim.Native.Nat.{ℕ, zero, suc, _+_, _*_, _-_, _/_, _%_, _^_, _≤_, _<_}
+use lib.ListN.{length, getD, set}
+use Rattle.algebra.specs.Xor.{_⊕_}
+use Rattle.algebra.specs.Tables.{tab}
+use Rattle.algebra.specs.Words.{Word, bit}
+use Rattle.rules.specs.Bits.{bitAt}
+
+unfoldable pub bitsAt : List ℕ → ℕ → ℕ → ℕ → Bool
+bitsAt s start step j = bitAt s (start + j * step)
+
+unfoldable pub wordAt : ℕ → List ℕ → ℕ → ℕ → Word
+wordAt n s start step = tab n (bitsAt s start step)
+
+-- a word of n bits lies within the buffer, which is no longer than the longest frame
+abbrev pub Inside : ℕ → List ℕ → ℕ → ℕ → Type 0
+Inside n s start step =
+    (18 ≤ n) × (n ≤ 256) × (length s ≤ 8192) × (1 ≤ step) × (start + (n - 1) * step < length s * 8)
+
+-- bit x negated
+unfoldable pub flipAt : List ℕ → ℕ → List ℕ
+flipAt s x = set s (x / 8) (getD s (x / 8) 0 ⊕ 2 ^ (7 - x % 8))
+
+-- bit x made b
+unfoldable pub putBit : List ℕ → ℕ → Bool → List ℕ
+putBit s x b = cond (xor (bitAt s x) b) (flipAt s x) s
+
+-- the first m bits of the word u put in place, one after another
+unfoldable pub put : ℕ → List ℕ → ℕ → ℕ → Word → List ℕ
+put zero s start step u = s
+put (suc m) s start step u = putBit (put m s start step u) (start + m * step) (bit u m)

@@ -1,0 +1,4 @@
+-- Words anywhere in a buffer, and frames as words in one of two directions: what the code's contracts speak of.
+pub mod InPlace
+pub mod Turns
+pub mod Located

@@ -1,0 +1,188 @@
+-- The powers of a, their logarithms and the product: a power below 255 has one logarithm, and a product adds exponents.
+-- Assumes nothing.
+use mathlib.Core.Path.{_≡_, refl, sym, ap, ap₂, _∙_}
+use mathlib.Core.Logic.{_≢_}
+use mathlib.Core.Bool.{Bool, true, false}
+use mathlib.Core.List.{List, [], _∷_}
+use Prim.Native.Nat.{ℕ, zero, suc, _+_, _*_, _/_, _%_, _^_, _≤_, _<_}
+use native.Mathlib.Nat.{mul-zero, one-mul, zero-mul, pow-suc}
+use native.Mathlib.Omega.{arith}
+use borrow.Author.Tests.{eqb-true, eqb-false}
+use lib.Dec.{eqb, lit<}
+use lib.ListN.{length, getD}
+use Rattle.algebra.specs.Xor.{_⊕_}
+use Rattle.algebra.specs.Register.{iter, turn}
+use Rattle.algebra.specs.Linear.{Additive, lin}
+use Rattle.algebra.specs.Tables.{tab, tabFrom}
+use Rattle.algebra.specs.Field256.{powers, logs}
+use Rattle.algebra.proofs.XorLaws.{⊕-zero, zero-⊕}
+use Rattle.algebra.proofs.LinearLaws.{lin-additive, additive-zero, additive-iter, agree}
+use Rattle.algebra.proofs.RegisterLaws.{turn-additive, iter-add, iter-comm, iter-mul, iter-keeps, iter-lt, iter-nonzero, iter-zero}
+use Rattle.algebra.proofs.TableLaws.{tab-zero, tab-suc, tab-length, tab-at, tab-ext}
+use Rattle.algebra.proofs.Field256Laws.{powers256-at, round256, powers256-logs, logs256-lt, power256-injective}
+use Rattle.rules.specs.Field.{poly, timesA, power, exponent, logarithm, product}
+
+-- ---- powers
+
+pub power-is : (e : ℕ) → power e ≡ iter e (turn 7 29) 1
+unfolding power timesA poly
+power-is e = refl
+
+pub power-small : (e : ℕ) → power e < 256
+power-small e = rw power-is (iter-lt 7 (lit< tt) e 1 (lit< tt))
+
+pub power-some : (e : ℕ) → power e ≢ 0
+power-some e z =
+    let q : _≡_ {A = ℕ} 1 0 = iter-nonzero 7 29 (lit< tt) refl e 1 (lit< tt) (sym (power-is e) ∙ z) in
+    omega arith
+
+-- a^255 = 1, so 255 steps more lead to the same power
+pub power-wrap : (e : ℕ) → power (e % 255) ≡ power e
+power-wrap e =
+    let s : e ≡ e % 255 + 255 * (e / 255) = omega arith in
+    let rounds : iter (255 * (e / 255)) (turn 7 29) 1 ≡ 1 =
+    iter-mul 255 (e / 255) (turn 7 29) 1
+    ∙ iter-keeps (λ x. x ≡ 1) (iter 255 (turn 7 29)) (λ x p. ap (iter 255 (turn 7 29)) p ∙ round256) (e / 255) 1 refl in
+    power-is (e % 255) ∙ ap (iter (e % 255) (turn 7 29)) (sym rounds)
+    ∙ sym (iter-add (e % 255) (255 * (e / 255)) (turn 7 29) 1) ∙ sym (power-is (e % 255 + 255 * (e / 255))) ∙ ap power (sym s)
+
+pub power-same : (i j : ℕ) → i < 255 → j < 255 → power i ≡ power j → i ≡ j
+power-same i j hi hj e = power256-injective i j hi hj (sym (power-is i) ∙ e ∙ power-is j)
+
+-- ---- logarithms
+
+exponent-small : (left e x : ℕ) → e + left ≤ 255 → exponent left e x < 255
+unfolding exponent
+exponent-small zero e x h = lit< tt
+exponent-small (suc left) e x h = go (eqb (power e) x) (exponent-small left (suc e) x (omega arith))
+  where
+    go :
+        (b : Bool) → exponent left (suc e) x < 255
+        → elim b [ true ↦ e | false ↦ exponent left (suc e) x ] < 255
+    go true later = omega arith
+    go false later = later
+
+-- the search ends at a power that is x, if it passes one
+exponent-finds :
+    (left e x i : ℕ) → e ≤ i → i < e + left → power i ≡ x → power (exponent left e x) ≡ x
+unfolding exponent
+exponent-finds zero e x i lo hi p = absurd (omega arith)
+exponent-finds (suc left) e x i lo hi p = go (eqb (power e) x) refl (λ n. exponent-finds left (suc e) x i n (omega arith) p)
+  where
+    go :
+        (b : Bool) → eqb (power e) x ≡ b → (suc e ≤ i → power (exponent left (suc e) x) ≡ x)
+        → power (elim b [ true ↦ e | false ↦ exponent left (suc e) x ]) ≡ x
+    go true q later = eqb-true (power e) x q
+    go false q later =
+        let other : e ≢ i = λ s. eqb-false (power e) x q (ap power s ∙ p) in
+        later (omega arith)
+
+pub logarithm-small : (x : ℕ) → logarithm x < 255
+unfolding logarithm
+logarithm-small x = exponent-small 255 0 x (omega arith)
+
+table-power : (x : ℕ) → 1 ≤ x → x < 256 → power (getD logs x 0) ≡ x
+table-power x lo hi =
+    power-is (getD logs x 0) ∙ sym (powers256-at (getD logs x 0) (logs256-lt x lo hi)) ∙ powers256-logs x lo hi
+
+power-logarithm-at : (x i : ℕ) → i < 255 → power i ≡ x → power (logarithm x) ≡ x
+unfolding logarithm
+power-logarithm-at x i h p = exponent-finds 255 0 x i (omega arith) (omega arith) p
+
+pub power-logarithm : (x : ℕ) → x ≢ 0 → x < 256 → power (logarithm x) ≡ x
+power-logarithm x n h =
+    let lo : 1 ≤ x = omega (arith, n) in
+    power-logarithm-at x (getD logs x 0) (logs256-lt x lo h) (table-power x lo h)
+
+-- the search for 0 finds nothing
+exponent-none : (left e : ℕ) → exponent left e 0 ≡ 0
+unfolding exponent
+exponent-none zero e = refl
+exponent-none (suc left) e = go (eqb (power e) 0) refl (exponent-none left (suc e))
+  where
+    go :
+        (b : Bool) → eqb (power e) 0 ≡ b → exponent left (suc e) 0 ≡ 0
+        → _≡_ {A = ℕ} (elim b [ true ↦ e | false ↦ exponent left (suc e) 0 ]) 0
+    go true q later = absurd (power-some e (eqb-true (power e) 0 q))
+    go false q later = later
+
+pub logarithm-zero : logarithm 0 ≡ 0
+unfolding logarithm
+logarithm-zero = exponent-none 255 0
+
+pub logarithm-power : (e : ℕ) → e < 255 → logarithm (power e) ≡ e
+logarithm-power e h =
+    power-same (logarithm (power e)) e (logarithm-small (power e)) h (power-logarithm-at (power e) e h refl)
+
+-- ---- the product
+
+-- a map by its columns takes 2^m to column m
+lin-column : (cs : List ℕ) (m : ℕ) → m < length cs → lin cs (2 ^ m) ≡ getD cs m 0
+unfolding lin
+lin-column [] m h = absurd (omega arith)
+lin-column (c ∷ cs) zero h = ap₂ _⊕_ (one-mul c) (additive-zero (lin cs) (lin-additive cs)) ∙ ⊕-zero c
+lin-column (c ∷ cs) (suc m) h =
+    let d : 2 ^ suc m % 2 ≡ 0 = omega (arith, pow-suc 2 m) in
+    let q : 2 ^ suc m / 2 ≡ 2 ^ m = omega (arith, pow-suc 2 m) in
+    ap₂ _⊕_ (ap (λ b. b * c) d ∙ zero-mul c) (ap (lin cs) q ∙ lin-column cs m (omega arith)) ∙ zero-⊕ (getD cs m 0)
+
+lin-none : (n y : ℕ) → lin (tab n (λ _. 0)) y ≡ 0
+unfolding lin
+lin-none zero y = ap (λ cs. lin cs y) (tab-zero (λ _. 0))
+lin-none (suc n) y =
+    ap (λ cs. lin cs y) (tab-suc n (λ _. 0)) ∙ ap₂ _⊕_ (mul-zero (y % 2)) (lin-none n (y / 2)) ∙ ⊕-zero 0
+
+-- bit m is a^m
+low-powers : tab 8 power ≡ tab 8 (λ m. 2 ^ m)
+unfolding _⊕_ iter turn tab tabFrom poly timesA power
+low-powers = refl
+
+low-power : (m : ℕ) → m < 8 → power m ≡ 2 ^ m
+low-power m h = sym (tab-at 8 power m 0 h) ∙ ap (λ l. getD l m 0) low-powers ∙ tab-at 8 (λ m. 2 ^ m) m 0 h
+
+timesA-additive : Additive timesA
+unfolding timesA poly
+timesA-additive = turn-additive 7 29
+
+-- the product with a^i is i times times a
+product-steps : (i y : ℕ) → y < 256 → product (power i) y ≡ iter i timesA y
+unfolding product power
+product-steps i =
+    let cs : List ℕ = tab 8 (λ m. iter m timesA (power i)) in
+    agree 8 (lin cs) (iter i timesA) (lin-additive cs) (additive-iter timesA timesA-additive i)
+    (λ m h.
+    lin-column cs m (omega (arith, tab-length 8 (λ m. iter m timesA (power i))))
+    ∙ tab-at 8 (λ m. iter m timesA (power i)) m 0 h
+    ∙ iter-comm m i timesA 1
+    ∙ ap (iter i timesA) (low-power m h))
+
+pub product-powers : (i j : ℕ) → product (power i) (power j) ≡ power (i + j)
+unfolding power
+product-powers i j = product-steps i (power j) (power-small j) ∙ sym (iter-add i j timesA 1)
+
+-- the way by which code multiplies
+pub product-logarithms :
+    (x y : ℕ) → x ≢ 0 → y ≢ 0 → x < 256 → y < 256 → product x y ≡ power (logarithm x + logarithm y)
+product-logarithms x y nx ny hx hy =
+    ap₂ product (sym (power-logarithm x nx hx)) (sym (power-logarithm y ny hy)) ∙ product-powers (logarithm x) (logarithm y)
+
+pub product-zero-left : (y : ℕ) → product 0 y ≡ 0
+unfolding product timesA poly
+product-zero-left y =
+    ap (λ cs. lin cs y) (tab-ext 8 (λ i. iter i timesA 0) (λ _. 0) (λ i h. iter-zero 7 29 i)) ∙ lin-none 8 y
+
+pub product-zero-right : (x : ℕ) → product x 0 ≡ 0
+unfolding product
+product-zero-right x = let cs : List ℕ = tab 8 (λ i. iter i timesA x) in additive-zero (lin cs) (lin-additive cs)
+
+-- ---- the tables
+
+pub powers-power : (e : ℕ) → getD powers (e % 255) 0 ≡ power e
+powers-power e = powers256-at (e % 255) (omega arith) ∙ sym (power-is (e % 255)) ∙ power-wrap e
+
+pub logs-logarithm : (x : ℕ) → x < 256 → getD logs x 0 ≡ logarithm x
+unfolding logs
+logs-logarithm zero h = sym logarithm-zero
+logs-logarithm (suc x) h =
+    let l : getD logs (suc x) 0 < 255 = logs256-lt (suc x) (omega arith) h in
+    sym (logarithm-power (getD logs (suc x) 0) l) ∙ ap logarithm (table-power (suc x) (omega arith) h)
