@@ -4,18 +4,18 @@ use mathlib.Core.Path.{_≡_, refl, sym, ap, _∙_}
 use mathlib.Core.Logic.{_≢_}
 use mathlib.Core.Bool.{Bool, true, false, cond}
 use mathlib.Core.List.{List, []}
-use Prim.Native.Nat.{ℕ, zero, suc, _+_, _*_, _-_, _/_, _%_, _≤_, _<_}
+use Prim.Native.Nat.{ℕ, _+_, _*_, _-_, _/_, _%_, _≤_, _<_}
 use native.Mathlib.Nat.{mul-one, mul-assoc, mul-le-mul}
 use native.Mathlib.Decide.{decLt, ℕ-discrete}
 use native.Mathlib.Omega.{arith}
 use borrow.Author.Tests.{lt-ltb, le-ltb}
 use lib.Arith.{digits-lt, digits-div, digits-mod}
-use lib.Dec.{ltb}
+use lib.Dec.{eqb, ltb}
 use lib.ListN.{length}
 use lib.Seq.{ext-getD}
-use Rattle.algebra.specs.Words.{Word, bit}
+use Rattle.algebra.specs.Words.{Word}
 use Rattle.algebra.proofs.TableLaws.{tab-length}
-use Rattle.rules.specs.Frames.{Frame, row, cell, transposed, Square}
+use Rattle.rules.specs.Frames.{Frame, row, cell, Square, badRows, badColumns, isFrame}
 use Rattle.rules.specs.Bits.{rowBytes, stride, squareBytes, bitAt, frameOf, bytesOf}
 use Rattle.rules.proofs.Laws.Shape.{word-ext, row-tab, bit-past, transposed-square, transposed-cell, transposed-twice, frameOf-square, frameOf-cell}
 use Rattle.rules.proofs.Laws.BitLaws.{bytes-ext}
@@ -109,6 +109,23 @@ worked-none n columns rule f s =
     go g q = rows-ext n (partly n rule 0 g) g (square g q) q (same g)
 
 -- ---- where a word's bits lie
+
+-- as the code computes it, from the bytes of a row
+pub start-down : (n : ℕ) (columns : Bool) (k : ℕ) → columns ≡ true → k ≡ startOf n columns k
+unfolding startOf
+start-down n columns k e = rw e
+
+pub start-across : (n : ℕ) (columns : Bool) (k w : ℕ) → columns ≡ false → w ≡ rowBytes n → k * (w * 8) ≡ startOf n columns k
+unfolding startOf
+start-across n columns k w e h = rw (e, h)
+
+pub step-down : (n : ℕ) (columns : Bool) (w : ℕ) → columns ≡ true → w ≡ rowBytes n → w * 8 ≡ stepOf n columns
+unfolding stepOf
+step-down n columns w e h = rw (e, h)
+
+pub step-across : (n : ℕ) (columns : Bool) → columns ≡ false → 1 ≡ stepOf n columns
+unfolding stepOf
+step-across n columns e = rw e
 
 -- bit j of word k, as a bit of a row
 across : (n k j : ℕ) → startOf n false k + j * stepOf n false ≡ k * stride n + j
@@ -301,3 +318,9 @@ put-worked n s columns rule k f r q w h e = packed ∙ ap (bytesOf n) framed
         (turned-square n columns later (worked-square n columns rule (k + 1) f r q))
         (λ i hi. same i hi (ℕ-discrete i k)))
         ∙ turned-twice n columns later (worked-square n columns rule (k + 1) f r q)
+
+-- whether any word in either direction is not a codeword
+pub frame-counted :
+    (n : ℕ) (f : Frame) (a b : ℕ) → a ≡ badRows n (turned n false f) → b ≡ badRows n (turned n true f) → isFrame n f ≡ eqb (a + b) 0
+unfolding isFrame badColumns turned
+frame-counted n f a b ha hb = rw (ha, hb)

@@ -8,6 +8,7 @@ use Rattle.algebra.specs.Tables.{tab}
 use Rattle.algebra.specs.Words.{Word, bit}
 use Rattle.rules.specs.Bits.{bitAt}
 
+-- bit j of the word that starts at bit `start` and goes by `step`
 unfoldable pub bitsAt : List ℕ → ℕ → ℕ → ℕ → Bool
 bitsAt s start step j = bitAt s (start + j * step)
 

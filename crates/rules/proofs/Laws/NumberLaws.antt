@@ -4,7 +4,7 @@ use mathlib.Core.Path.{_≡_, refl, ap}
 use mathlib.Core.Logic.{_≢_, _↔_, _⊎_, inl, inr, Iff·trans, Iff·rfl, Iff·and}
 use mathlib.Core.Bool.{Bool, true, false, not, _&&_, true≢false}
 use mathlib.Core.List.{List, [], _∷_, map}
-use Prim.Native.Nat.{ℕ, suc, _≤_}
+use Prim.Native.Nat.{ℕ, _≤_}
 use native.Mathlib.Omega.{arith}
 use lib.Dec.{eqb, leb}
 use lib.ListN.{length, drop}
@@ -13,7 +13,7 @@ use Rattle.rules.specs.Words.{dataBits, isIn, answer, mend}
 use Rattle.rules.specs.Frames.{isFrame, corner, rowsFirst}
 use Rattle.rules.specs.Bits.{rowBytes, wordOf, frameOf, wordBytes, bytesOf, spareOnes}
 use Rattle.rules.specs.Passes.{Ending, clean, repaired, stuck, spent, Outcome, decoded}
-use Rattle.rules.specs.Numbers.{told, handedOut, ended, number, mostAllowed, pick, outside, notAllowed, notLong, dataBytes, frameBytes, encodeNumber, encodeOutput, readNumber, readOutput, refused, decodeRefusal, decodeSaid, decodeOutput, wordRefused, answered, wordRefusal, wordSaid, wordNumber, wordOutput, RefusalList, first, sizeRefusals, encodeRefusals, readRefusals, decodeRefusals, wordRefusals}
+use Rattle.rules.specs.Numbers.{told, handedOut, ended, number, mostAllowed, pick, notAllowed, dataBytes, frameBytes, encodeNumber, encodeOutput, readNumber, readOutput, refused, decodeRefusal, decodeSaid, decodeOutput, wordRefused, answered, wordRefusal, wordSaid, wordNumber, wordOutput, RefusalList, first, sizeRefusals, encodeRefusals, readRefusals, decodeRefusals, wordRefusals}
 use Rattle.rules.proofs.Laws.OneOfLaws.{OneOf, one-of-self, one-of-cons, one-of-back, one-of-front, and-both, allIn}
 
 -- ---- a list of checks

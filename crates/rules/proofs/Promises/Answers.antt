@@ -1,23 +1,18 @@
 -- The word's answer: refused exactly if no codeword lies within two; otherwise the one codeword within two.
 -- Assumes nothing.
 use mathlib.Core.Path.{_≡_, refl, sym, ap, subst, _∙_}
-use mathlib.Core.Logic.{_≢_, _↔_, _⊎_, inl, inr, ⊎-elim}
+use mathlib.Core.Logic.{_≢_, _↔_}
 use mathlib.Core.Bool.{true, xor, Bool·not-not}
 use mathlib.Core.List.{List, [], _∷_}
 use mathlib.Core.Option.{Option, some, none}
 use Prim.Native.Nat.{ℕ, zero, suc, _+_, _≤_, _<_}
-use native.Mathlib.Nat.{zero-add}
-use native.Mathlib.Decide.{decLt}
 use native.Mathlib.Omega.{arith}
 use lib.ListN.{length}
-use Rattle.algebra.specs.Xor.{_⊕_}
 use Rattle.algebra.specs.Tables.{ones}
 use Rattle.algebra.specs.Words.{Word, bit, differ, dot}
-use Rattle.algebra.proofs.XorLaws.{⊕-zero, ⊕-zero→≡, ≡→⊕-zero}
-use Rattle.algebra.proofs.WordLaws.{⊻-length, ⊻-cancel, ⊻-ones, differ-zero, differ-comm}
 use Rattle.rules.specs.Words.{checks, isCodeword, Codeword, values, within, nearest, Answer, codeword, onePlace, twoPlaces, beyond, asAnswer, answer, places, isIn, changed, mend}
 use Rattle.rules.proofs.Laws.Shape.{word-ext}
-use Rattle.rules.proofs.Laws.CheckLaws.{values-length, checks-dot, checks-⊻, codeword-checks, checks-codeword}
+use Rattle.rules.proofs.Laws.CheckLaws.{values-length, checks-dot, codeword-checks, checks-codeword}
 use Rattle.rules.proofs.Promises.Distance.{few-places}
 use Rattle.rules.proofs.Laws.PatternLaws.{changed-length, changed-bit}
 use Rattle.rules.proofs.Laws.NearestLaws.{Code, Nearest, listed, nearest-within, search-nearest, search-only, search-mends}

@@ -7,7 +7,7 @@ use mathlib.Core.List.{List, [], _∷_, _++_, map}
 use Prim.Native.Nat.{ℕ}
 use native.Mathlib.Omega.{arith}
 use lib.Dec.{eqb}
-use lib.ListN.{length, replicate}
+use lib.ListN.{replicate}
 use Rattle.algebra.specs.Tables.{ones, total}
 use Rattle.algebra.specs.Words.{Word, bit}
 use Rattle.rules.specs.Words.{remainder, isCodeword, Codeword, codeword, onePlace, twoPlaces, beyond, Answer, answer, places, changed, mend}

@@ -1,14 +1,14 @@
 -- Codewords are what document 01 says: the polynomial is divisible by g, and the number of ones is even.
 -- Assumes nothing.
-use mathlib.Core.Path.{_≡_, sym, ap, _∙_}
+use mathlib.Core.Path.{_≡_}
 use mathlib.Core.Logic.{_↔_}
 use mathlib.Core.Bool.{true}
-use Prim.Native.Nat.{ℕ, _+_, _*_, _-_, _%_, _^_, _≤_}
+use Prim.Native.Nat.{ℕ, _-_, _%_}
 use native.Mathlib.Omega.{arith}
-use lib.ListN.{length, take}
+use lib.ListN.{take}
 use Rattle.algebra.specs.Tables.{ones}
 use Rattle.algebra.specs.Words.{Word}
-use Rattle.algebra.specs.Remainder.{register, value, Multiple}
+use Rattle.algebra.specs.Remainder.{value, Multiple}
 use Rattle.algebra.proofs.DivisionLaws.{divides}
 use Rattle.rules.specs.Words.{g, remainder, checks, isCodeword}
 use Rattle.rules.proofs.Laws.CheckLaws.{low, low-small, g-low, codeword-checks, checks-codeword}

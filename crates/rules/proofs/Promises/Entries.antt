@@ -13,7 +13,7 @@ use Rattle.rules.specs.Words.{dataBits, Answer, codeword, onePlace, twoP
 use Rattle.rules.specs.Frames.{Frame, isFrame}
 use Rattle.rules.specs.Bits.{rowBytes, wordOf, frameOf, wordBytes, bytesOf, spareOnes}
 use Rattle.rules.specs.Passes.{Ending, clean, repaired, stuck, spent, Outcome, decoded}
-use Rattle.rules.specs.Numbers.{pick, outside, notAllowed, notLong, frameBytes, dataBytes, RefusalList, first, sizeRefusals, encodeNumber, encodeOutput, readNumber, readOutput, Decoded, refused, ended, told, handedOut, decodeRefusal, decodeSaid, decodeOutput, Figures, figuresOf, WordSaid, wordRefused, answered, wordRefusal, wordSaid, wordNumber, wordOutput, rowPart, Exit, encode, read, decode, decodeWord}
+use Rattle.rules.specs.Numbers.{pick, outside, notAllowed, notLong, frameBytes, dataBytes, RefusalList, first, sizeRefusals, encodeNumber, encodeOutput, readNumber, readOutput, refused, ended, told, handedOut, decodeRefusal, decodeSaid, decodeOutput, Figures, figuresOf, wordRefused, answered, wordRefusal, wordSaid, wordNumber, wordOutput, rowPart, Exit, encode, read, decode, decodeWord}
 use Rattle.rules.proofs.Laws.Shape.{frameOf-square, wordOf-length}
 use Rattle.rules.proofs.Laws.PackLaws.{spare-zero, spare-some}
 use Rattle.rules.proofs.Laws.NumberLaws.{range-test, equal-test, true-test, decode-accepts, word-accepts, at-zero, encode-refused, read-refused, decode-refused, word-refused}

@@ -10,7 +10,7 @@ use lib.ListN.{getD, replicate}
 use Rattle.algebra.specs.Words.{Word, bit, differ}
 use Rattle.rules.specs.Frames.{isFrame}
 use Rattle.rules.specs.Bits.{wordOf, frameOf, bytesOf}
-use Rattle.rules.specs.Passes.{clean, repaired, stuck, differences, Outcome, good, decoded}
+use Rattle.rules.specs.Passes.{clean, repaired, stuck, differences, good, decoded}
 use Rattle.rules.specs.Numbers.{encodeNumber, encodeOutput, ended, refused, told, handedOut, decodeRefusal, decodeSaid, decodeOutput, number}
 use Rattle.rules.specs.Damage.{spoilt}
 use Rattle.rules.proofs.Laws.Shape.{frameOf-square}

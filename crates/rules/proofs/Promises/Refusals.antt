@@ -13,10 +13,10 @@ use lib.ListN.{length, take, drop, length-drop}
 use lib.Seq.{length-take-le}
 use borrow.Author.Tests.{ltb-true, lt-ltb, not-false}
 use Rattle.rules.specs.Words.{dataBits, Answer, codeword, onePlace, twoPlaces, beyond, answer, mend, isIn}
-use Rattle.rules.specs.Frames.{isFrame, corner, rowsFirst}
-use Rattle.rules.specs.Bits.{rowBytes, wordOf, frameOf, wordBytes, bytesOf, spareOnes}
+use Rattle.rules.specs.Frames.{corner, rowsFirst}
+use Rattle.rules.specs.Bits.{rowBytes, wordOf, frameOf, wordBytes, bytesOf}
 use Rattle.rules.specs.Passes.{Ending, clean, repaired, stuck, spent, Outcome, decoded}
-use Rattle.rules.specs.Numbers.{pick, outside, notLong, notAllowed, dataBytes, frameBytes, encodeNumber, encodeOutput, readNumber, readOutput, refused, told, handedOut, decodeRefusal, decodeSaid, decodeOutput, ended, number, wordRefused, answered, wordRefusal, wordSaid, wordNumber, wordOutput, rowRefused, rowPart, encodeRefusals, readRefusals, decodeRefusals, wordRefusals}
+use Rattle.rules.specs.Numbers.{pick, outside, notLong, frameBytes, encodeNumber, encodeOutput, readNumber, readOutput, refused, told, handedOut, decodeRefusal, decodeSaid, decodeOutput, ended, number, wordRefused, answered, wordRefusal, wordSaid, wordNumber, wordOutput, rowRefused, rowPart, encodeRefusals, readRefusals, decodeRefusals, wordRefusals}
 use Rattle.rules.proofs.Laws.PackLaws.{bytesOf-length, wordBytes-length}
 use Rattle.rules.proofs.Laws.NumberLaws.{range-test, equal-test, first-in, encode-accepts, read-accepts, decode-accepts, word-accepts, handed, at-zero, at-other, at-either}
 use Rattle.rules.proofs.Laws.OneOfLaws.{OneOf, one-of-cons, one-of-back, one-of-front, allIn, one-of-range}

@@ -1,0 +1,154 @@
+-- `decode::decode` meets its contract. Each check that applies gives its number; when none does, the frame is copied and repaired,
+-- and put back as it was received where that failed.
+-- Assumes nothing.
+use mathlib.Core.Path.{_≡_, sym, _∙_}
+use mathlib.Core.Bool.{false}
+use Prim.Native.Nat.{_≤_}
+use native.Mathlib.Omega.{arith}
+use borrow.Author.Needs.{needs}
+use lib.ListN.{length}
+use Rattle.rules.specs.Bits.{squareBytes}
+use Rattle.rules.specs.Numbers.{outside}
+use Rattle.rules.proofs.Laws.NumberLaws.{Sized}
+use Rattle.laws.proofs.RefusalLaws.{inside, sized}
+use Rattle.laws.proofs.CornerLaws.{cornered-square, ready}
+use Rattle.laws.proofs.DecodeLaws.{refused-1, refused-2, refused-3, refused-4, Accepted, accept, as-long, copied-over}
+use Rattle.frame.proofs.ToldLaws.{refusal-said, failed, succeeded}
+use Rattle.frame.proofs.decode.decode.Statement.{statement}
+use Rattle.frame.proofs.decode.decode.Tie as tie
+
+-- ---- what each check leaves
+
+passed-1 : (c : tie.Else1) → outside (c .before .before .before .before .args .n) ≡ false
+passed-1 c = sym (c .before .outside .ensures) ∙ c .if1 .left
+
+small : (c : tie.Else1) → c .before .before .before .before .args .n ≤ 256
+small c = inside _ (passed-1 c) .1
+
+passed-2 : (c : tie.Else2) → let a = c .before .before .before .before .before .before .args in length (a .received .now) ≡ squareBytes (a .n)
+passed-2 c = c .if2 .left ∙ c .before .square-bytes .ensures
+
+passed-3 : (c : tie.Else3) → let a = c .before .before .before .before .before .before .before .before .args in length (a .frame .now) ≡ squareBytes (a .n)
+passed-3 c = c .if3 .left ∙ c .before .square-bytes2 .ensures
+
+all-sizes :
+    (c : tie.Else3)
+    → let a = c .before .before .before .before .before .before .before .before .args in
+    Sized (a .n) (a .received .now) (squareBytes (a .n)) (a .frame .now) (squareBytes (a .n))
+all-sizes c = sized _ _ _ _ _ (passed-1 (c .before .before .before .before)) (passed-2 (c .before .before)) (passed-3 c)
+
+all-passed :
+    (c : tie.Else4)
+    → let a = c .before .before .before .before .before .before .before .before .before .before .args in
+    Accepted (a .n) (a .allowance) (a .received .now) (a .frame .now)
+all-passed c = accept _ _ _ _ (all-sizes (c .before .before)) (sym (c .before .not-allowed .ensures) ∙ c .if4 .left)
+
+-- ---- the needs
+
+outside-requires : tie.Need-outside-requires
+outside-requires c κs = search needs
+
+only-requires : tie.Need-only-requires
+only-requires c κs = search needs
+
+returns : tie.Need-returns
+returns c = refusal-said _ _ _ _ _ _ (c .only .ensures) (refused-1 _ _ _ _ (sym (c .before .before .outside .ensures) ∙ c .before .if1 .taken))
+
+square-bytes-requires : tie.Need-square-bytes-requires
+square-bytes-requires c κs = small c
+
+only-requires-2 : tie.Need-only-requires-2
+only-requires-2 c κs = search needs
+
+returns-2 : tie.Need-returns-2
+returns-2 c =
+    refusal-said _ _ _ _ _ _ (c .only2 .ensures)
+    (refused-2 _ _ _ _ (passed-1 (c .before .before .before)) (λ e. c .before .if2 .taken (e ∙ sym (c .before .before .square-bytes .ensures))))
+
+square-bytes-requires-2 : tie.Need-square-bytes-requires-2
+square-bytes-requires-2 c κs = small (c .before .before)
+
+only-requires-3 : tie.Need-only-requires-3
+only-requires-3 c κs = search needs
+
+returns-3 : tie.Need-returns-3
+returns-3 c =
+    refusal-said _ _ _ _ _ _ (c .only3 .ensures)
+    (refused-3 _ _ _ _ (passed-1 (c .before .before .before .before .before)) (passed-2 (c .before .before .before))
+    (λ e. c .before .if3 .taken (e ∙ sym (c .before .before .square-bytes2 .ensures))))
+
+not-allowed-requires : tie.Need-not-allowed-requires
+not-allowed-requires c κs = search needs
+
+only-requires-4 : tie.Need-only-requires-4
+only-requires-4 c κs = search needs
+
+returns-4 : tie.Need-returns-4
+returns-4 c =
+    refusal-said _ _ _ _ _ _ (c .only4 .ensures)
+    (refused-4 _ _ _ _ (all-sizes (c .before .before .before)) (sym (c .before .before .not-allowed .ensures) ∙ c .before .if4 .taken))
+
+copy-corner-requires : tie.Need-copy-corner-requires
+copy-corner-requires c κs =
+    let f = all-passed (c .before) .sized in (omega (arith, f .from, f .upTo), (f .taken, f .lent))
+
+repair-requires : tie.Need-repair-requires
+repair-requires c κs =
+    let ok = all-passed (c .before .before .before .before .before) in
+    (ready _ _ _ (ok .sized .from) (ok .sized .upTo) (cornered-square _ _ _) (c .before .before .before .copy-corner .ensures), ok .some, ok .most)
+
+is-failure-requires : tie.Need-is-failure-requires
+is-failure-requires c κs = search needs
+
+copy-requires : tie.Need-copy-requires
+copy-requires c κs =
+    let z = c .before .before .before .before .before .before .before .before .before .before .before in
+    let a = z .before .before .before .before .before .before .before .before .before .before .args in
+    omega (arith, as-long (a .n) (a .received .now) _ _ (all-passed z .sized .taken) (c .before .before .before .before .before .repair .ensures .1))
+
+same-length : tie.Need-same-length
+same-length c = search needs
+
+returns-5 : tie.Need-returns-5
+returns-5 c =
+    let d = c .before .before .before .before in
+    let r = d .before .before .before .before .repair .ensures in
+    let copied = d .before .before .before .before .before .before .before .before .copy-corner .ensures in
+    let ok = all-passed (d .before .before .before .before .before .before .before .before .before .before) in
+    failed _ _ _ _ _ ok copied _ (r .0) _ (d .before .is-failure .ensures) _ (d .if5 .taken)
+    (copied-over _ _ _ _ (ok .sized .taken) (r .1) _ (c .before .before .copy .ensures .1))
+
+same-length-2 : tie.Need-same-length-2
+same-length-2 c = search needs
+
+returns-6 : tie.Need-returns-6
+returns-6 c =
+    let r = c .before .before .before .before .repair .ensures in
+    let copied = c .before .before .before .before .before .before .before .before .copy-corner .ensures in
+    let ok = all-passed (c .before .before .before .before .before .before .before .before .before .before) in
+    succeeded _ _ _ _ _ ok copied _ (r .0) _ (c .before .is-failure .ensures) _ (c .if5 .left) (r .1)
+
+pub decode-spec : {M : Type 1} → statement M
+decode-spec =
+    tie.close
+    (tie.spec
+    outside-requires
+    only-requires
+    returns
+    square-bytes-requires
+    only-requires-2
+    returns-2
+    square-bytes-requires-2
+    only-requires-3
+    returns-3
+    not-allowed-requires
+    only-requires-4
+    returns-4
+    copy-corner-requires
+    repair-requires
+    is-failure-requires
+    copy-requires
+    same-length
+    returns-5
+    same-length-2
+    returns-6)

@@ -1,0 +1,201 @@
+-- `decode::repair` meets its contract. The outer loop: the passes left to make give the whole outcome. The inner loop: the first `k`
+-- words of this pass are mended.
+-- Assumes nothing.
+use mathlib.Core.Path.{sym, _∙_}
+use Prim.Native.Nat.{_-_}
+use borrow.Author.Needs.{needs}
+use Rattle.rules.specs.Bits.{frameOf}
+use Rattle.rules.proofs.Laws.Shape.{frameOf-square}
+use Rattle.laws.proofs.PassStepLaws.{
+  Passing,
+  passing-whole,
+  passing-none,
+  passing-more,
+  Repairing,
+  repairing-none,
+  repairing-more,
+  frame-torn,
+  ended-clean,
+  ended-repaired,
+  ended-stuck,
+  ended-spent,
+}
+use Rattle.frame.proofs.ToldLaws.{reported}
+use Rattle.frame.proofs.decode.repair.Statement.{statement}
+use Rattle.frame.proofs.decode.repair.Tie as tie
+
+abbrev Inv-loop2 : tie.InvT-loop2
+Inv-loop2 n allowance s₀ rows columns passes flips by-columns changes₀ k₀ s changes k =
+    Passing n (frameOf n s₀) by-columns s changes k
+
+abbrev μ-loop2 : tie.MeasureT-loop2
+μ-loop2 n allowance s₀ rows columns passes flips by-columns changes₀ k₀ s changes k = n - k
+
+abbrev Inv-loop : tie.InvT-loop
+Inv-loop n allowance s₀ rows₀ columns₀ passes₀ flips₀ s rows columns passes flips =
+    Repairing n allowance (frameOf n s₀) s passes flips
+
+abbrev μ-loop : tie.MeasureT-loop
+μ-loop n allowance s₀ rows₀ columns₀ passes₀ flips₀ s rows columns passes flips = allowance - passes
+
+bad-requires : tie.Need-bad-requires Inv-loop2 μ-loop2 Inv-loop μ-loop
+bad-requires c κs = search needs
+
+bad-requires-2 : tie.Need-bad-requires-2 Inv-loop2 μ-loop2 Inv-loop μ-loop
+bad-requires-2 c κs = search needs
+
+add-if1 : tie.Need-add-if1 Inv-loop2 μ-loop2 Inv-loop μ-loop
+add-if1 c = search needs
+
+only-requires : tie.Need-only-requires Inv-loop2 μ-loop2 Inv-loop μ-loop
+only-requires c κs = search needs
+
+same-length : tie.Need-same-length Inv-loop2 μ-loop2 Inv-loop μ-loop
+same-length c = search needs
+
+returns : tie.Need-returns Inv-loop2 μ-loop2 Inv-loop μ-loop
+returns c =
+    let q = c .before .before .before .before .before .before .before in
+    let d = reported _ _ _ (q .args .s .now) _ _ _ _ _
+    (ended-clean _ _ (q .args .s .now) _ _ (q .pre .0) (c .before .before .before .before .bad .ensures .0) (c .before .before .bad2 .ensures .0) (c .before .if1 .taken)) in
+    (c .only .ensures ∙ d .0, d .1)
+
+loop-holds : tie.Need-loop-holds Inv-loop2 μ-loop2 Inv-loop μ-loop
+loop-holds c =
+    let q = c .before .before .before .before .before .before in
+    repairing-none _ _ _ (q .pre .0) (q .pre .1) (frame-torn _ _ _ _ (c .before .before .before .bad .ensures .0) (c .before .bad2 .ensures .0) (c .if1 .left))
+
+loop2-holds : tie.Need-loop2-holds Inv-loop2 μ-loop2 Inv-loop μ-loop
+loop2-holds c = passing-none _ _ _ (c .loop .inv .ready)
+
+mend-word-requires : tie.Need-mend-word-requires Inv-loop2 μ-loop2 Inv-loop μ-loop
+mend-word-requires c κs = (let p = c .before .before in passing-whole _ _ _ _ _ _ _ _ _ _ (p .before .loop .inv) (p .loop2 .inv), search needs)
+
+add-changes : tie.Need-add-changes Inv-loop2 μ-loop2 Inv-loop μ-loop
+add-changes c = search needs
+
+add-k : tie.Need-add-k Inv-loop2 μ-loop2 Inv-loop μ-loop
+add-k c = search needs
+
+loop2-less : tie.Need-loop2-less Inv-loop2 μ-loop2 Inv-loop μ-loop
+loop2-less c = search needs
+
+loop2-again : tie.Need-loop2-again Inv-loop2 μ-loop2 Inv-loop μ-loop
+loop2-again c =
+    let p = c .before .before .before .before .before in
+    let m = c .before .before .mend-word .ensures in
+    passing-more _ _ _ (p .loop2 .s) _ _ _ _ (frameOf-square _ _) (passing-whole _ _ _ _ _ _ _ _ _ _ (p .before .loop .inv) (p .loop2 .inv))
+    (c .before .before .before .before .loop2-test .taken) (p .loop2 .inv) (m .0 .0) (m .0 .1) (m .1)
+
+add-passes : tie.Need-add-passes Inv-loop2 μ-loop2 Inv-loop μ-loop
+add-passes c = search needs
+
+add-flips : tie.Need-add-flips Inv-loop2 μ-loop2 Inv-loop μ-loop
+add-flips c = search needs
+
+bad-requires-3 : tie.Need-bad-requires-3 Inv-loop2 μ-loop2 Inv-loop μ-loop
+bad-requires-3 c κs = let p = c .before .before in passing-whole _ _ _ _ _ _ _ _ _ _ (p .before .loop .inv) (p .loop2 .inv)
+
+bad-requires-4 : tie.Need-bad-requires-4 Inv-loop2 μ-loop2 Inv-loop μ-loop
+bad-requires-4 c κs = let p = c .before .before .before .before in passing-whole _ _ _ _ _ _ _ _ _ _ (p .before .loop .inv) (p .loop2 .inv)
+
+add-if2 : tie.Need-add-if2 Inv-loop2 μ-loop2 Inv-loop μ-loop
+add-if2 c = search needs
+
+is-stuck-requires : tie.Need-is-stuck-requires Inv-loop2 μ-loop2 Inv-loop μ-loop
+is-stuck-requires c κs = search needs
+
+loop-less : tie.Need-loop-less Inv-loop2 μ-loop2 Inv-loop μ-loop
+loop-less c = search needs
+
+loop-again : tie.Need-loop-again Inv-loop2 μ-loop2 Inv-loop μ-loop
+loop-again c =
+    let y = c .before .before .before .before in
+    let b = y .before .before in
+    let e = b .before .before in
+    let p = e .before in
+    repairing-more _ _ _ _ _ _ (p .before .loop .inv) _ _ _ (p .loop2 .inv) (e .loop2-test .left) _ _
+    (b .bad3 .ensures .0) (y .bad4 .ensures .0) (c .before .before .before .if2 .left)
+    (sym (c .before .before .is-stuck .ensures) ∙ c .before .if3 .left) (c .if4 .left)
+
+same-length-2 : tie.Need-same-length-2 Inv-loop2 μ-loop2 Inv-loop μ-loop
+same-length-2 c =
+    let p = c .before .before .before .before .before .before in
+    passing-whole _ _ _ _ _ _ _ _ _ _ (p .before .loop .inv) (p .loop2 .inv) .2 ∙ sym (p .before .before .before .before .before .before .before .before .pre .0 .0 .2)
+
+returns-2 : tie.Need-returns-2 Inv-loop2 μ-loop2 Inv-loop μ-loop
+returns-2 c =
+    let y = c .before in
+    let b = y .before .before in
+    let e = b .before .before in
+    let p = e .before in
+    reported _ _ _ _ _ _ _ _ _
+    (ended-repaired _ _ _ _ _ _ (p .before .loop .inv) _ _ _ (p .loop2 .inv) (e .loop2-test .left) _ _
+    (b .bad3 .ensures .0) (y .bad4 .ensures .0) (c .if2 .taken))
+
+same-length-3 : tie.Need-same-length-3 Inv-loop2 μ-loop2 Inv-loop μ-loop
+same-length-3 c =
+    let p = c .before .before .before .before .before .before .before .before in
+    passing-whole _ _ _ _ _ _ _ _ _ _ (p .before .loop .inv) (p .loop2 .inv) .2 ∙ sym (p .before .before .before .before .before .before .before .before .pre .0 .0 .2)
+
+returns-3 : tie.Need-returns-3 Inv-loop2 μ-loop2 Inv-loop μ-loop
+returns-3 c =
+    let y = c .before .before .before in
+    let b = y .before .before in
+    let e = b .before .before in
+    let p = e .before in
+    reported _ _ _ _ _ _ _ _ _
+    (ended-stuck _ _ _ _ _ _ (p .before .loop .inv) _ _ _ (p .loop2 .inv) (e .loop2-test .left) _ _
+    (b .bad3 .ensures .0) (y .bad4 .ensures .0) (c .before .before .if2 .left) (sym (c .before .is-stuck .ensures) ∙ c .if3 .taken))
+
+same-length-4 : tie.Need-same-length-4 Inv-loop2 μ-loop2 Inv-loop μ-loop
+same-length-4 c =
+    let p = c .before .before .before .before .before .before .before .before .before in
+    passing-whole _ _ _ _ _ _ _ _ _ _ (p .before .loop .inv) (p .loop2 .inv) .2 ∙ sym (p .before .before .before .before .before .before .before .before .pre .0 .0 .2)
+
+returns-4 : tie.Need-returns-4 Inv-loop2 μ-loop2 Inv-loop μ-loop
+returns-4 c =
+    let y = c .before .before .before .before in
+    let b = y .before .before in
+    let e = b .before .before in
+    let p = e .before in
+    reported _ _ _ _ _ _ _ _ _
+    (ended-spent _ _ _ _ _ _ (p .before .loop .inv) _ _ _ (p .loop2 .inv) (e .loop2-test .left) _ _
+    (b .bad3 .ensures .0) (y .bad4 .ensures .0) (c .before .before .before .if2 .left)
+    (sym (c .before .before .is-stuck .ensures) ∙ c .before .if3 .left) (c .if4 .taken))
+
+pub repair-spec : {M : Type 1} → statement M
+repair-spec =
+    tie.close
+    (tie.spec
+    Inv-loop2
+    μ-loop2
+    Inv-loop
+    μ-loop
+    bad-requires
+    bad-requires-2
+    add-if1
+    only-requires
+    same-length
+    returns
+    loop-holds
+    loop2-holds
+    mend-word-requires
+    add-changes
+    add-k
+    loop2-less
+    loop2-again
+    add-passes
+    add-flips
+    bad-requires-3
+    bad-requires-4
+    add-if2
+    is-stuck-requires
+    loop-less
+    loop-again
+    same-length-2
+    returns-2
+    same-length-3
+    returns-3
+    same-length-4
+    returns-4)

@@ -1,0 +1,29 @@
+-- The contracts of the entry points, each as one statement about a call: its arguments, what the lent output held, what is
+-- returned, and what the output holds then.
+use mathlib.Core.Path.{_≡_}
+use mathlib.Core.List.{List}
+use Prim.Native.Nat.{ℕ}
+use Rattle.rules.specs.Bits.{frameOf, bytesOf}
+use Rattle.rules.specs.Passes.{decoded}
+use Rattle.rules.specs.Numbers.{told, encodeNumber, encodeOutput, readNumber, readOutput, decodeSaid, decodeOutput, rowPart}
+use Rattle.frame.specs.declared.decode.Report.{Report}
+use Rattle.frame.specs.Said.{said}
+
+abbrev pub Encodes : ℕ → List ℕ → List ℕ → ℕ → List ℕ → Type 0
+Encodes n message output r exit = (r ≡ encodeNumber n message output) × (exit ≡ encodeOutput n message output)
+
+abbrev pub Reads : ℕ → List ℕ → List ℕ → ℕ → List ℕ → Type 0
+Reads n frame output r exit = (r ≡ readNumber n frame output) × (exit ≡ readOutput n frame output)
+
+abbrev pub Decodes : ℕ → ℕ → List ℕ → List ℕ → Report → List ℕ → Type 0
+Decodes n allowance received output r exit =
+    (r ≡ said (decodeSaid n allowance received output)) × (exit ≡ decodeOutput n allowance received output)
+
+-- the passes alone, in a buffer whose spare bits are zero: they leave the last frame there
+abbrev pub Repairs : ℕ → ℕ → List ℕ → Report → List ℕ → Type 0
+Repairs n allowance s r exit =
+    (r ≡ said (told (decoded n allowance (frameOf n s)))) × (exit ≡ bytesOf n (decoded n allowance (frameOf n s) .last))
+
+-- a row has no lent output: what is returned is a part of the frame
+abbrev pub TakesRow : ℕ → List ℕ → ℕ → List ℕ → Type 0
+TakesRow n frame i r = r ≡ rowPart n frame i

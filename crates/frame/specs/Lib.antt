@@ -1,0 +1,3 @@
+-- What the frame's functions answer.
+pub mod Said
+pub mod Calls

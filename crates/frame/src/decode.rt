@@ -1,0 +1,143 @@
+// Decoding: passes over rows and columns in turn, in the lent output.
+use crate::corner::copy_corner;
+use crate::sizes::square_bytes;
+use crate::words::bad;
+use crate::words::mend_word;
+use word::sizes::outside;
+ghost use mathlib.Core.Path.{_≡_};
+ghost use Prim.Native.Nat.{_≤_};
+ghost use Rattle.rules.specs.Passes.{isStuck};
+ghost use Rattle.rules.specs.Numbers.{mostAllowed, notAllowed};
+ghost use Rattle.laws.specs.Turns.{Ready};
+ghost use Rattle.frame.specs.Calls.{Repairs, Decodes};
+ghost use Rattle.frame.specs.Said.{onlyEnding, isFailure};
+
+const MOST_ALLOWED: usize = 32;
+
+pub enum Ending {
+    Clean,
+    Repaired,
+    Stuck,
+    Spent,
+    Refused(u32),
+}
+
+// How it ended, the passes made, the bits flipped, and for stuck and spent the rows and columns that are not codewords.
+pub struct Report {
+    pub ending: Ending,
+    pub passes: usize,
+    pub flips: usize,
+    pub rows: usize,
+    pub columns: usize,
+}
+
+// An ending with nothing counted.
+fn only(ending: Ending) -> Report
+    ensures { λ r. ⌜ r ≡ onlyEnding ending ⌝ }
+{
+    Report {
+        ending,
+        passes: 0,
+        flips: 0,
+        rows: 0,
+        columns: 0,
+    }
+}
+
+// Stuck and spent hand nothing out.
+fn is_failure(ending: Ending) -> bool
+    ensures { λ r. ⌜ r ≡ isFailure ending ⌝ }
+{
+    match ending {
+        Ending::Stuck => true,
+        Ending::Spent => true,
+        Ending::Clean => false,
+        Ending::Repaired => false,
+        Ending::Refused(_) => false,
+    }
+}
+
+fn not_allowed(allowance: usize) -> bool
+    ensures { λ r. ⌜ r ≡ notAllowed allowance ⌝ }
+{
+    if allowance < 1 {
+        return true;
+    }
+    MOST_ALLOWED < allowance
+}
+
+// Whether this is pass 2 or later and it changed no bit.
+fn is_stuck(pass: usize, changes: usize) -> bool
+    ensures { λ r. ⌜ r ≡ isStuck pass changes ⌝ }
+{
+    if pass < 2 {
+        return false;
+    }
+    changes == 0
+}
+
+// The passes, made in the frame itself: it is left as the last pass left it.
+fn repair(n: usize, allowance: usize, s: &mut [u8]) -> Report
+    requires { ⌜ Ready n (now s) × (1 ≤ allowance) × (allowance ≤ mostAllowed) ⌝ }
+    ensures { λ r. ⌜ Repairs n allowance (now (s .entry)) r (now (s .exit)) ⌝ }
+{
+    let mut rows = bad(n, s, false);
+    let mut columns = bad(n, s, true);
+    if rows + columns == 0 {
+        return only(Ending::Clean);
+    }
+    let mut passes = 0;
+    let mut flips = 0;
+    let ending = loop {
+        let by_columns = passes % 2 == 1;
+        let mut changes = 0;
+        for k in 0..n {
+            changes = changes + mend_word(n, s, by_columns, k);
+        }
+        passes = passes + 1;
+        flips = flips + changes;
+        rows = bad(n, s, false);
+        columns = bad(n, s, true);
+        if rows + columns == 0 {
+            break Ending::Repaired;
+        }
+        if is_stuck(passes, changes) {
+            break Ending::Stuck;
+        }
+        if passes == allowance {
+            break Ending::Spent;
+        }
+    };
+    Report {
+        ending,
+        passes,
+        flips,
+        rows,
+        columns,
+    }
+}
+
+// Numbers 1 to 4 leave `frame` untouched; stuck and spent leave the received bytes in it.
+pub fn decode(n: usize, allowance: usize, received: &[u8], frame: &mut [u8]) -> Report
+    ensures { λ r. ⌜ Decodes n allowance (now (received .entry)) (now (frame .entry)) r (now (frame .exit)) ⌝ }
+{
+    if outside(n) {
+        return only(Ending::Refused(1));
+    }
+    if received.len() != square_bytes(n) {
+        return only(Ending::Refused(2));
+    }
+    if frame.len() != square_bytes(n) {
+        return only(Ending::Refused(3));
+    }
+    if not_allowed(allowance) {
+        return only(Ending::Refused(4));
+    }
+    copy_corner(n, n, received, n, frame);
+    let r = repair(n, allowance, frame);
+    let ending = r.ending;
+    if is_failure(ending) {
+        bytes::copy(received, frame);
+    }
+    r
+}

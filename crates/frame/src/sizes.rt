@@ -1,0 +1,13 @@
+// The bytes of a square.
+use word::sizes::row_bytes;
+ghost use mathlib.Core.Path.{_≡_};
+ghost use Prim.Native.Nat.{_≤_};
+ghost use Rattle.rules.specs.Bits.{squareBytes};
+
+// n rows of n bits.
+pub(crate) fn square_bytes(n: usize) -> usize
+    requires { ⌜ n ≤ 256 ⌝ }
+    ensures { λ r. ⌜ r ≡ squareBytes n ⌝ }
+{
+    n * row_bytes(n)
+}

@@ -1,0 +1,66 @@
+// A frame's words, in one of two directions: rows or columns.
+use word::checks::checks;
+use word::encode::encode_word;
+use word::mend::changes;
+use word::mend::mend;
+use word::sizes::row_bytes;
+ghost use mathlib.Core.Path.{_≡_};
+ghost use Prim.Native.Nat.{_*_, _<_, _≤_};
+ghost use lib.ListN.{length};
+ghost use Rattle.algebra.specs.Words.{differ};
+ghost use Rattle.rules.specs.Words.{mend};
+ghost use Rattle.rules.specs.Frames.{row, badRows};
+ghost use Rattle.rules.specs.Bits.{squareBytes, frameOf, bytesOf, stride};
+ghost use Rattle.laws.specs.InPlace.{put};
+ghost use Rattle.laws.specs.Turns.{turned, startOf, stepOf, worked, completed, Whole, Ready};
+
+// The bit that word k starts at.
+pub(crate) fn start(n: usize, columns: bool, k: usize) -> usize
+    requires { ⌜ (n ≤ 256) × (k ≤ 256) ⌝ }
+    ensures { λ r. ⌜ r ≡ startOf n columns k ⌝ }
+{
+    if columns { k } else { k * (row_bytes(n) * 8) }
+}
+
+// The step from bit to bit of a word.
+pub(crate) fn step(n: usize, columns: bool) -> usize
+    requires { ⌜ n ≤ 256 ⌝ }
+    ensures { λ r. ⌜ r ≡ stepOf n columns ⌝ }
+{
+    if columns { row_bytes(n) * 8 } else { 1 }
+}
+
+// How many words in the direction are not codewords.
+pub(crate) fn bad(n: usize, s: &[u8], columns: bool) -> usize
+    requires { ⌜ Whole n (now s) ⌝ }
+    ensures { λ r. ⌜ (r ≡ badRows n (turned n columns (frameOf n (now (s .entry))))) × (r ≤ 256) ⌝ }
+{
+    let by = step(n, columns);
+    let mut found = 0;
+    for k in 0..n {
+        if checks(n, s, start(n, columns, k), by) != 0 {
+            found = found + 1;
+        }
+    }
+    found
+}
+
+// Encodes the first m words in the direction.
+pub(crate) fn encode_words(n: usize, s: &mut [u8], columns: bool, m: usize)
+    requires { ⌜ Ready n (now s) × (m ≤ n) ⌝ }
+    ensures { λ _. ⌜ now (s .exit) ≡ bytesOf n (worked n columns (completed n) m (frameOf n (now (s .entry)))) ⌝ }
+{
+    let by = step(n, columns);
+    for k in 0..m {
+        encode_word(n, s, start(n, columns, k), by);
+    }
+}
+
+// Mends word k in the direction; how many of its bits were changed.
+pub(crate) fn mend_word(n: usize, s: &mut [u8], columns: bool, k: usize) -> usize
+    requires { ⌜ Whole n (now s) × (k < n) ⌝ }
+    ensures { λ r. ⌜ (r ≡ differ (row (turned n columns (frameOf n (now (s .entry)))) k) (mend n (row (turned n columns (frameOf n (now (s .entry)))) k))) × (r ≤ 2) ⌝ }
+    ensures { λ _. ⌜ now (s .exit) ≡ put n (now (s .entry)) (startOf n columns k) (stepOf n columns) (mend n (row (turned n columns (frameOf n (now (s .entry)))) k)) ⌝ }
+{
+    changes(mend(n, s, start(n, columns, k), step(n, columns)))
+}

@@ -1,0 +1,34 @@
+-- The checks that every entry point begins with, in the code's order: the number that each gives where it applies.
+-- Assumes nothing.
+use mathlib.Core.Path.{_≡_}
+use mathlib.Core.Logic.{_≢_}
+use mathlib.Core.Bool.{true, false}
+use mathlib.Core.List.{List}
+use Prim.Native.Nat.{ℕ, _≤_}
+use lib.ListN.{length}
+use borrow.Author.Tests.{eq-eqb, ne-eqb}
+use Rattle.rules.specs.Numbers.{outside, RefusalList, first, sizeRefusals}
+use Rattle.rules.proofs.Laws.NumberLaws.{Sized, range-test}
+
+pub inside : (n : ℕ) → outside n ≡ false → (18 ≤ n) × (n ≤ 256)
+inside n h = range-test 18 256 n .0 h
+
+module _ (n : ℕ) (input : List ℕ) (takes : ℕ) (output : List ℕ) (gives : ℕ) where
+  -- none of them applies
+  pub sized : outside n ≡ false → length input ≡ takes → length output ≡ gives → Sized n input takes output gives
+  sized h a b = let i = inside n h in record { from = i .0; upTo = i .1; taken = a; lent = b }
+
+  module _ (later : RefusalList) where
+    pub size-1 : outside n ≡ true → first (sizeRefusals n input takes output gives later) ≡ 1
+    size-1 h = rw h
+
+    pub size-2 : outside n ≡ false → length input ≢ takes → first (sizeRefusals n input takes output gives later) ≡ 2
+    size-2 h a = rw (h, ne-eqb (length input) takes a)
+
+    pub size-3 :
+        outside n ≡ false → length input ≡ takes → length output ≢ gives → first (sizeRefusals n input takes output gives later) ≡ 3
+    size-3 h a b = rw (h, eq-eqb (length input) takes a, ne-eqb (length output) gives b)
+
+    pub size-later : Sized n input takes output gives → first (sizeRefusals n input takes output gives later) ≡ first later
+    size-later f =
+        rw (range-test 18 256 n .1 (f .from, f .upTo), eq-eqb (length input) takes (f .taken), eq-eqb (length output) gives (f .lent))

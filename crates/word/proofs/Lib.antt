@@ -1,0 +1,2 @@
+-- Laws of a word's code
+pub mod SaidLaws

@@ -1,0 +1,11 @@
+-- The contract of `decode_word`, as one statement about a call: its arguments, what the lent output held, what is returned, and
+-- what the output holds then.
+use mathlib.Core.Path.{_≡_}
+use mathlib.Core.List.{List}
+use Prim.Native.Nat.{ℕ}
+use Rattle.rules.specs.Numbers.{wordSaid, wordOutput}
+use Rattle.word.specs.declared.decode.Said.{Said}
+use Rattle.word.specs.Said.{said}
+
+abbrev pub DecodesWord : ℕ → List ℕ → List ℕ → Said → List ℕ → Type 0
+DecodesWord n received output r exit = (r ≡ said (wordSaid n received output)) × (exit ≡ wordOutput n received output)

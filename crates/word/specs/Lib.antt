@@ -1,0 +1,4 @@
+-- What a word's functions answer.
+pub mod Said
+pub mod Calls
+pub mod Locates

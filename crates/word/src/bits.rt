@@ -1,0 +1,37 @@
+// Bits of a packed buffer: bit 0 is the top bit of the first byte.
+ghost use mathlib.Core.Path.{_≡_};
+ghost use Prim.Native.Nat.{_+_, _*_, _<_, _≤_};
+ghost use lib.ListN.{length};
+ghost use Rattle.algebra.specs.Tables.{num};
+ghost use Rattle.rules.specs.Bits.{bitAt, wordOf, byteOf};
+ghost use Rattle.laws.specs.InPlace.{flipAt};
+
+// Bit x, 0 or 1.
+pub(crate) fn bit(s: &[u8], x: usize) -> u32
+    requires { ⌜ x < length (now s) * 8 ⌝ }
+    ensures { λ r. ⌜ r ≡ num (bitAt (now (s .entry)) x) ⌝ }
+{
+    ((s[x / 8] >> (7 - x % 8)) & 1) as u32
+}
+
+pub(crate) fn flip(s: &mut [u8], x: usize)
+    requires { ⌜ x < length (now s) * 8 ⌝ }
+    ensures { λ _. ⌜ now (s .exit) ≡ flipAt (now (s .entry)) x ⌝ }
+{
+    s[x / 8] = s[x / 8] ^ (1 << (7 - x % 8));
+}
+
+// Byte b of the word of m bits that starts at byte `at`: what lies past the word's end is zero.
+pub fn word_byte(m: usize, s: &[u8], at: usize, b: usize) -> u8
+    requires { ⌜ (m ≤ 256) × (at ≤ 8192) × (b ≤ 256) × (b * 8 < m → at + b < length (now s)) ⌝ }
+    ensures { λ r. ⌜ r ≡ byteOf (wordOf m (now (s .entry)) (at * 8)) b ⌝ }
+{
+    if m <= b * 8 {
+        return 0;
+    }
+    if b * 8 + 8 <= m {
+        return s[at + b];
+    }
+    let spare = b * 8 + 8 - m;
+    (s[at + b] >> spare) << spare
+}

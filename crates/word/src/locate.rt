@@ -1,0 +1,125 @@
+// From the checks of a word to its answer, by the values of the remainder at a and a^3.
+use field::log;
+use field::power;
+use field::product;
+ghost use mathlib.Core.Path.{_≡_};
+ghost use mathlib.Core.Logic.{_≢_};
+ghost use mathlib.Core.Bool.{true, false};
+ghost use Prim.Native.Nat.{_+_, _≤_, _<_};
+ghost use Rattle.rules.specs.Field.{product};
+ghost use Rattle.word.specs.Said.{told};
+ghost use Rattle.word.specs.Locates.{Locates};
+ghost use Rattle.laws.specs.Located.{located, Sums, Partner};
+
+pub enum Answer {
+    Codeword,
+    OnePlace(usize),
+    TwoPlaces(usize, usize),
+    Beyond,
+}
+
+pub struct PowerSums {
+    pub s1: u8,
+    pub s3: u8,
+}
+
+// The values of a remainder at a and at a^3.
+fn power_sums(remainder: u32) -> PowerSums
+    requires { ⌜ remainder < 65536 ⌝ }
+    ensures { λ r. ⌜ Sums remainder (r .s1) (r .s3) ⌝ }
+{
+    let mut left = remainder;
+    let mut s1: u8 = 0;
+    let mut s3: u8 = 0;
+    for i in 0..16 {
+        if left % 2 == 1 {
+            s1 = s1 ^ power(i);
+            s3 = s3 ^ power(3 * i);
+        }
+        left = left / 2;
+    }
+    PowerSums { s1, s3 }
+}
+
+// An odd number of places: the parity bit alone, one other place, or more than two.
+fn odd_places(n: usize, s1: u8, s3: u8) -> Answer
+    requires { ⌜ (18 ≤ n) × (n ≤ 256) ⌝ }
+    ensures { λ r. ⌜ Locates n true s1 s3 r ⌝ }
+{
+    if product(product(s1, s1), s1) != s3 {
+        return Answer::Beyond;
+    }
+    if s1 == 0 {
+        return Answer::OnePlace(n - 1);
+    }
+    let e = log(s1);
+    if n < e + 2 {
+        return Answer::Beyond; // a place that was cut away
+    }
+    Answer::OnePlace(n - 2 - e)
+}
+
+// The place after p with which p gives the two sums; n where there is none.
+fn partner(n: usize, s1: u8, s3: u8, p: usize) -> usize
+    requires { ⌜ (n ≤ 256) × (p + 1 < n) ⌝ }
+    ensures { λ q. ⌜ Partner n s1 s3 p q ⌝ }
+{
+    let e = n - 2 - p;
+    let y = s1 ^ power(e);
+    if y == 0 {
+        return n;
+    }
+    // below e: so not p itself, nor before it, nor cut away
+    let f = log(y);
+    if e <= f {
+        return n;
+    }
+    if power(3 * e) ^ power(3 * f) != s3 {
+        return n;
+    }
+    n - 2 - f
+}
+
+// Two places, neither of them the parity bit: each tried in turn as the lower one.
+fn two_places(n: usize, s1: u8, s3: u8) -> Answer
+    requires { ⌜ (18 ≤ n) × (n ≤ 256) × (product (product s1 s1) s1 ≢ s3) ⌝ }
+    ensures { λ r. ⌜ Locates n false s1 s3 r ⌝ }
+{
+    for p in 0..n - 1 {
+        let q = partner(n, s1, s3, p);
+        if q < n {
+            return Answer::TwoPlaces(p, q);
+        }
+    }
+    Answer::Beyond
+}
+
+// An even number of places: none, the parity bit and one other, two others, or more than two.
+fn even_places(n: usize, s1: u8, s3: u8) -> Answer
+    requires { ⌜ (18 ≤ n) × (n ≤ 256) ⌝ }
+    ensures { λ r. ⌜ Locates n false s1 s3 r ⌝ }
+{
+    if product(product(s1, s1), s1) != s3 {
+        return two_places(n, s1, s3);
+    }
+    if s1 == 0 {
+        return Answer::Codeword;
+    }
+    let e = log(s1);
+    if n < e + 2 {
+        return Answer::Beyond;
+    }
+    Answer::TwoPlaces(n - 2 - e, n - 1)
+}
+
+pub fn locate(n: usize, checks: u32) -> Answer
+    requires { ⌜ (18 ≤ n) × (n ≤ 256) × (checks < 131072) ⌝ }
+    ensures { λ r. ⌜ r ≡ told (located n checks) ⌝ }
+{
+    let sums = power_sums(checks / 2);
+    if checks % 2 == 1 {
+        odd_places(n, sums.s1, sums.s3)
+    } else {
+        even_places(n, sums.s1, sums.s3)
+    }
+}
