@@ -20,7 +20,7 @@ use Rattle.word.specs.Calls.{DecodesWord}
 use Rattle.word.specs.Said as word
 use Rattle.word.proofs.SaidLaws.{number-said}
 use Rattle.frame.specs.Calls.{Encodes, Reads, Decodes, TakesRow}
-use Rattle.frame.specs.Said.{said, figures}
+use Rattle.frame.specs.Said.{reportOf, figures}
 use Rattle.frame.proofs.SaidLaws.{figures-said}
 use Rattle.frame.specs.declared.decode.Report.{Report}
 use Rattle.word.specs.declared.decode.Said.{Said}
@@ -55,10 +55,10 @@ pub record Demand₂ : Type 0 where
       (n : ℕ) (frame output : List ℕ) (r : ℕ) (exit : List ℕ) → Reads n frame output r exit → ReadRule n frame output r exit
   pub decode :
       (n allowance : ℕ) (received output : List ℕ) (r : Report) (exit : List ℕ) → Decodes n allowance received output r exit
-      → (d : Decoded) × (r ≡ said d) × (figures r ≡ figuresOf d) × DecodeRule n allowance received output d exit
+      → (d : Decoded) × (r ≡ reportOf d) × (figures r ≡ figuresOf d) × DecodeRule n allowance received output d exit
   pub word :
       (n : ℕ) (received output : List ℕ) (r : Said) (exit : List ℕ) → DecodesWord n received output r exit
-      → (d : WordSaid) × (r ≡ word.said d) × (word.numberOf r ≡ wordNumber d) × WordRule n received output d exit
+      → (d : WordSaid) × (r ≡ word.saidOf d) × (word.numberOf r ≡ wordNumber d) × WordRule n received output d exit
   -- "Encoding and reading back give the data"; the message's entries are bytes
   pub back :
       (n : ℕ) (message output : List ℕ) (frame : List ℕ) → Encodes n message output 0 frame → ((p : ℕ) → getD message p 0 < 256)
@@ -67,7 +67,7 @@ pub record Demand₂ : Type 0 where
   pub clean :
       (n : ℕ) (message output : List ℕ) (frame : List ℕ) → Encodes n message output 0 frame
       → (allowance : ℕ) (lent : List ℕ) (r : Report) (exit : List ℕ) → length lent ≡ frameBytes n → 1 ≤ allowance → allowance ≤ mostAllowed
-      → Decodes n allowance frame lent r exit → (r ≡ said (ended clean 0 0 0 0)) × (exit ≡ frame)
+      → Decodes n allowance frame lent r exit → (r ≡ reportOf (ended clean 0 0 0 0)) × (exit ≡ frame)
 
 -- ---- Demand 3: "comes back exactly, in at most two passes, at any allowance of two or more"
 
@@ -138,7 +138,7 @@ demand₂ = record {
       let p : (decodeSaid n allowance frame lent ≡ ended clean 0 0 0 0) × (decodeOutput n allowance frame lent ≡ frame) =
       subst⁻¹ (λ s. (decodeSaid n allowance s lent ≡ ended clean 0 0 0 0) × (decodeOutput n allowance s lent ≡ s)) (e .1)
       (t .decodes (encodeOutput n message output) lent allowance (t .received) h lo hi) in
-      (c .0 ∙ ap said (p .0), c .1 ∙ p .1);
+      (c .0 ∙ ap reportOf (p .0), c .1 ∙ p .1);
 }
 
 pub demand₃ : Demand₃

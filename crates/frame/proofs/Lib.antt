@@ -2,4 +2,4 @@
 pub mod Demands
 -- Laws of the frame's code
 pub mod SaidLaws
-pub mod ToldLaws
+pub mod ReportLaws

@@ -1,13 +1,18 @@
 -- The contracts of the entry points, each as one statement about a call: its arguments, what the lent output held, what is
 -- returned, and what the output holds then.
+use mathlib.Core.Bool.{Bool}
 use mathlib.Core.Path.{_≡_}
 use mathlib.Core.List.{List}
-use Prim.Native.Nat.{ℕ}
+use Prim.Native.Nat.{ℕ, _≤_}
+use Rattle.algebra.specs.Words.{Word, differ}
+use Rattle.rules.specs.Words.{mend}
 use Rattle.rules.specs.Bits.{frameOf, bytesOf}
 use Rattle.rules.specs.Passes.{decoded}
 use Rattle.rules.specs.Numbers.{told, encodeNumber, encodeOutput, readNumber, readOutput, decodeSaid, decodeOutput, rowPart}
+use Rattle.laws.specs.InPlace.{put}
+use Rattle.laws.specs.Turns.{wordIn, startOf, stepOf}
 use Rattle.frame.specs.declared.decode.Report.{Report}
-use Rattle.frame.specs.Said.{said}
+use Rattle.frame.specs.Said.{reportOf}
 
 abbrev pub Encodes : ℕ → List ℕ → List ℕ → ℕ → List ℕ → Type 0
 Encodes n message output r exit = (r ≡ encodeNumber n message output) × (exit ≡ encodeOutput n message output)
@@ -17,12 +22,18 @@ Reads n frame output r exit = (r ≡ readNumber n frame output) × (exit ≡ rea
 
 abbrev pub Decodes : ℕ → ℕ → List ℕ → List ℕ → Report → List ℕ → Type 0
 Decodes n allowance received output r exit =
-    (r ≡ said (decodeSaid n allowance received output)) × (exit ≡ decodeOutput n allowance received output)
+    (r ≡ reportOf (decodeSaid n allowance received output)) × (exit ≡ decodeOutput n allowance received output)
+
+-- word k in a direction mended in place: r of its bits are changed
+abbrev pub MendsWord : ℕ → Bool → ℕ → List ℕ → ℕ → List ℕ → Type 0
+MendsWord n columns k s r exit =
+    let w : Word = wordIn n columns s k in
+    ((r ≡ differ w (mend n w)) × (r ≤ 2)) × (exit ≡ put n s (startOf n columns k) (stepOf n columns) (mend n w))
 
 -- the passes alone, in a buffer whose spare bits are zero: they leave the last frame there
 abbrev pub Repairs : ℕ → ℕ → List ℕ → Report → List ℕ → Type 0
 Repairs n allowance s r exit =
-    (r ≡ said (told (decoded n allowance (frameOf n s)))) × (exit ≡ bytesOf n (decoded n allowance (frameOf n s) .last))
+    (r ≡ reportOf (told (decoded n allowance (frameOf n s)))) × (exit ≡ bytesOf n (decoded n allowance (frameOf n s) .last))
 
 -- a row has no lent output: what is returned is a part of the frame
 abbrev pub TakesRow : ℕ → List ℕ → ℕ → List ℕ → Type 0

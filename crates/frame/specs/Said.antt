@@ -7,19 +7,19 @@ use Rattle.frame.specs.declared.decode.Ending.{Ending}
 use Rattle.frame.specs.declared.decode.Ending.the-variants.{Clean, Repaired, Stuck, Spent, Refused}
 use Rattle.frame.specs.declared.decode.Report.{Report}
 
-abbrev pub ending : passes.Ending → Ending
-ending passes.clean = Clean
-ending passes.repaired = Repaired
-ending passes.stuck = Stuck
-ending passes.spent = Spent
+abbrev pub endingOf : passes.Ending → Ending
+endingOf passes.clean = Clean
+endingOf passes.repaired = Repaired
+endingOf passes.stuck = Stuck
+endingOf passes.spent = Spent
 
 -- an ending with nothing counted
 abbrev pub onlyEnding : Ending → Report
 onlyEnding e = record { ending = e; passes = 0; flips = 0; rows = 0; columns = 0 }
 
-abbrev pub said : Decoded → Report
-said (refused r) = onlyEnding (Refused r)
-said (ended e p f r c) = record { ending = ending e; passes = p; flips = f; rows = r; columns = c }
+abbrev pub reportOf : Decoded → Report
+reportOf (refused r) = onlyEnding (Refused r)
+reportOf (ended e p f r c) = record { ending = endingOf e; passes = p; flips = f; rows = r; columns = c }
 
 -- stuck and spent
 abbrev pub isFailure : Ending → Bool

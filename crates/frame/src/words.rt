@@ -5,14 +5,11 @@ use word::mend::changes;
 use word::mend::mend;
 use word::sizes::row_bytes;
 ghost use mathlib.Core.Path.{_≡_};
-ghost use Prim.Native.Nat.{_*_, _<_, _≤_};
-ghost use lib.ListN.{length};
-ghost use Rattle.algebra.specs.Words.{differ};
-ghost use Rattle.rules.specs.Words.{mend};
-ghost use Rattle.rules.specs.Frames.{row, badRows};
-ghost use Rattle.rules.specs.Bits.{squareBytes, frameOf, bytesOf, stride};
-ghost use Rattle.laws.specs.InPlace.{put};
+ghost use Prim.Native.Nat.{_<_, _≤_};
+ghost use Rattle.rules.specs.Frames.{badRows};
+ghost use Rattle.rules.specs.Bits.{frameOf, bytesOf};
 ghost use Rattle.laws.specs.Turns.{turned, startOf, stepOf, worked, completed, Whole, Ready};
+ghost use Rattle.frame.specs.Calls.{MendsWord};
 
 // The bit that word k starts at.
 pub(crate) fn start(n: usize, columns: bool, k: usize) -> usize
@@ -59,8 +56,7 @@ pub(crate) fn encode_words(n: usize, s: &mut [u8], columns: bool, m: usize)
 // Mends word k in the direction; how many of its bits were changed.
 pub(crate) fn mend_word(n: usize, s: &mut [u8], columns: bool, k: usize) -> usize
     requires { ⌜ Whole n (now s) × (k < n) ⌝ }
-    ensures { λ r. ⌜ (r ≡ differ (row (turned n columns (frameOf n (now (s .entry)))) k) (mend n (row (turned n columns (frameOf n (now (s .entry)))) k))) × (r ≤ 2) ⌝ }
-    ensures { λ _. ⌜ now (s .exit) ≡ put n (now (s .entry)) (startOf n columns k) (stepOf n columns) (mend n (row (turned n columns (frameOf n (now (s .entry)))) k)) ⌝ }
+    ensures { λ r. ⌜ MendsWord n columns k (now (s .entry)) r (now (s .exit)) ⌝ }
 {
     changes(mend(n, s, start(n, columns, k), step(n, columns)))
 }

@@ -13,7 +13,8 @@ use Rattle.algebra.specs.Tables.{tab, tabFrom}
 use Rattle.algebra.proofs.XorLaws.{⊕-zero, zero-⊕, ⊕-assoc, ⊕-comm, ⊕-cancel, ⊕-lt}
 use Rattle.rules.specs.Field.{power, logarithm}
 use Rattle.rules.proofs.Laws.FieldLaws.{power-small, power-some, power-logarithm, logarithm-power}
-use Rattle.laws.specs.Located.{valueOf, Sums, Alone, AllAlone, Partner}
+use Rattle.laws.specs.Located.{valueOf, Sums}
+use Rattle.laws.specs.Search.{Alone, AllAlone, Partner}
 
 -- ---- the two values, from the lowest bit up
 

@@ -22,7 +22,8 @@ use Rattle.rules.specs.Field.{power, logarithm, product}
 use Rattle.rules.specs.Words.{Answer, asAnswer, codeword, onePlace, twoPlaces, beyond}
 use Rattle.rules.proofs.Laws.FieldLaws.{power-logarithm, logarithm-small, logarithm-power, product-powers, product-zero-right}
 use Rattle.rules.proofs.Laws.PatternLaws.{Rising}
-use Rattle.laws.specs.Located.{located, Sums, Two, Alone, AllAlone, Partner}
+use Rattle.laws.specs.Located.{located, Sums}
+use Rattle.laws.specs.Search.{Two, Alone, AllAlone, Partner}
 use Rattle.laws.proofs.PlaceSums.{valueAt, places-located, none-located, power-is, Made, made-only, made-same, made-add, made-none, made-last, made-front}
 
 -- the cube, as the code makes it

@@ -15,10 +15,14 @@ bitsAt s start step j = bitAt s (start + j * step)
 unfoldable pub wordAt : ℕ → List ℕ → ℕ → ℕ → Word
 wordAt n s start step = tab n (bitsAt s start step)
 
--- a word of n bits lies within the buffer, which is no longer than the longest frame
+-- the bytes of the longest frame
+abbrev pub longest : ℕ
+longest = 8192
+
+-- a word of a permitted length lies within the buffer, which is no longer than the longest frame; its bits differ in place
 abbrev pub Inside : ℕ → List ℕ → ℕ → ℕ → Type 0
 Inside n s start step =
-    (18 ≤ n) × (n ≤ 256) × (length s ≤ 8192) × (1 ≤ step) × (start + (n - 1) * step < length s * 8)
+    (18 ≤ n) × (n ≤ 256) × (length s ≤ longest) × (1 ≤ step) × (start + (n - 1) * step < length s * 8)
 
 -- bit x negated
 unfoldable pub flipAt : List ℕ → ℕ → List ℕ

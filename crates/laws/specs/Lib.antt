@@ -2,3 +2,4 @@
 pub mod InPlace
 pub mod Turns
 pub mod Located
+pub mod Search

@@ -15,6 +15,10 @@ use Rattle.rules.specs.Bits.{stride, squareBytes, frameOf, bytesOf}
 unfoldable pub turned : ℕ → Bool → Frame → Frame
 turned n columns f = cond columns (transposed n f) f
 
+-- word k in the direction, in a frame's bytes
+abbrev pub wordIn : ℕ → Bool → List ℕ → ℕ → Word
+wordIn n columns s k = row (turned n columns (frameOf n s)) k
+
 -- where word k in the direction starts, and the step from bit to bit
 unfoldable pub startOf : ℕ → Bool → ℕ → ℕ
 startOf n columns k = cond columns k (k * stride n)

@@ -5,7 +5,7 @@ use mathlib.Core.List.{List}
 use Prim.Native.Nat.{ℕ}
 use Rattle.rules.specs.Numbers.{wordSaid, wordOutput}
 use Rattle.word.specs.declared.decode.Said.{Said}
-use Rattle.word.specs.Said.{said}
+use Rattle.word.specs.Said.{saidOf}
 
 abbrev pub DecodesWord : ℕ → List ℕ → List ℕ → Said → List ℕ → Type 0
-DecodesWord n received output r exit = (r ≡ said (wordSaid n received output)) × (exit ≡ wordOutput n received output)
+DecodesWord n received output r exit = (r ≡ saidOf (wordSaid n received output)) × (exit ≡ wordOutput n received output)

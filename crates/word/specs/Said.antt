@@ -7,15 +7,15 @@ use Rattle.word.specs.declared.locate.Answer.the-variants.{Codeword, One
 use Rattle.word.specs.declared.decode.Said.{Said}
 use Rattle.word.specs.declared.decode.Said.the-variants.{Refused, Answered}
 
-abbrev pub told : rules.Answer → Answer
-told rules.codeword = Codeword
-told (rules.onePlace p) = OnePlace p
-told (rules.twoPlaces p q) = TwoPlaces p q
-told rules.beyond = Beyond
+abbrev pub answerOf : rules.Answer → Answer
+answerOf rules.codeword = Codeword
+answerOf (rules.onePlace p) = OnePlace p
+answerOf (rules.twoPlaces p q) = TwoPlaces p q
+answerOf rules.beyond = Beyond
 
-abbrev pub said : numbers.WordSaid → Said
-said (numbers.wordRefused r) = Refused r
-said (numbers.answered a) = Answered (told a)
+abbrev pub saidOf : numbers.WordSaid → Said
+saidOf (numbers.wordRefused r) = Refused r
+saidOf (numbers.answered a) = Answered (answerOf a)
 
 -- how many places an answer names
 abbrev pub changes : Answer → ℕ

@@ -7,9 +7,10 @@ ghost use mathlib.Core.Logic.{_≢_};
 ghost use mathlib.Core.Bool.{true, false};
 ghost use Prim.Native.Nat.{_+_, _≤_, _<_};
 ghost use Rattle.rules.specs.Field.{product};
-ghost use Rattle.word.specs.Said.{told};
+ghost use Rattle.word.specs.Said.{answerOf};
 ghost use Rattle.word.specs.Locates.{Locates};
-ghost use Rattle.laws.specs.Located.{located, Sums, Partner};
+ghost use Rattle.laws.specs.Located.{located, Sums};
+ghost use Rattle.laws.specs.Search.{Partner};
 
 pub enum Answer {
     Codeword,
@@ -114,7 +115,7 @@ fn even_places(n: usize, s1: u8, s3: u8) -> Answer
 
 pub fn locate(n: usize, checks: u32) -> Answer
     requires { ⌜ (18 ≤ n) × (n ≤ 256) × (checks < 131072) ⌝ }
-    ensures { λ r. ⌜ r ≡ told (located n checks) ⌝ }
+    ensures { λ r. ⌜ r ≡ answerOf (located n checks) ⌝ }
 {
     let sums = power_sums(checks / 2);
     if checks % 2 == 1 {

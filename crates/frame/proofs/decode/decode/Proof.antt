@@ -13,7 +13,7 @@ use Rattle.rules.proofs.Laws.NumberLaws.{Sized}
 use Rattle.laws.proofs.RefusalLaws.{inside, sized}
 use Rattle.laws.proofs.CornerLaws.{cornered-square, ready}
 use Rattle.laws.proofs.DecodeLaws.{refused-1, refused-2, refused-3, refused-4, Accepted, accept, as-long, copied-over}
-use Rattle.frame.proofs.ToldLaws.{refusal-said, failed, succeeded}
+use Rattle.frame.proofs.ReportLaws.{refusal-said, failed, succeeded}
 use Rattle.frame.proofs.decode.decode.Statement.{statement}
 use Rattle.frame.proofs.decode.decode.Tie as tie
 

@@ -20,7 +20,7 @@ use Rattle.laws.proofs.PassStepLaws.{
   ended-stuck,
   ended-spent,
 }
-use Rattle.frame.proofs.ToldLaws.{reported}
+use Rattle.frame.proofs.ReportLaws.{reported}
 use Rattle.frame.proofs.decode.repair.Statement.{statement}
 use Rattle.frame.proofs.decode.repair.Tie as tie
 

@@ -2,7 +2,7 @@
 -- Assumes nothing.
 use borrow.Author.Needs.{needs}
 use Rattle.laws.proofs.PassStepLaws.{inside-here, put-here, flips-here}
-use Rattle.frame.proofs.ToldLaws.{changes-told}
+use Rattle.word.proofs.SaidLaws.{changes-answer}
 use Rattle.frame.proofs.words.mend_word.Statement.{statement}
 use Rattle.frame.proofs.words.mend_word.Tie as tie
 
@@ -31,7 +31,7 @@ returns c =
     let pre = b .before .before .before .before .pre in
     let m = c .before .before .before .mend in (
       flips-here (a .n) (a .s .now) (a .columns) (a .k) _ _ (b .before .start .ensures) (b .step .ensures) (pre .1) _ (pre .0)
-          (changes-told _ _ _ _ (c .changes .ensures) (m .ensures .0)),
+          (changes-answer _ _ _ _ (c .changes .ensures) (m .ensures .0)),
       put-here (a .n) (a .s .now) (a .columns) (a .k) _ _ (b .before .start .ensures) (b .step .ensures) (pre .1) _ (m .ensures .1),
     )
 

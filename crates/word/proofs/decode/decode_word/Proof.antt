@@ -10,7 +10,7 @@ use Rattle.rules.specs.Numbers.{outside}
 use Rattle.rules.proofs.Laws.NumberLaws.{Sized}
 use Rattle.laws.proofs.RefusalLaws.{inside, sized}
 use Rattle.laws.proofs.WordBytesLaws.{word-fits, word-1, word-2, word-3}
-use Rattle.word.specs.Said.{said}
+use Rattle.word.specs.Said.{saidOf}
 use Rattle.word.proofs.SaidLaws.{accepted, kept}
 use Rattle.word.proofs.decode.decode_word.Statement.{statement}
 use Rattle.word.proofs.decode.decode_word.Tie as tie
@@ -36,7 +36,7 @@ returns : tie.Need-returns
 returns c =
     let a = c .before .before .before .before .args in
     let e = word-1 (a .n) (a .received .now) (a .word .now) (sym (c .before .outside .ensures) ∙ c .if1 .taken) in
-    (ap said (e .0), e .1)
+    (ap saidOf (e .0), e .1)
 
 row-bytes-requires : tie.Need-row-bytes-requires
 row-bytes-requires c κs = inside (c .before .before .before .before .args .n) (allowed c) .1
@@ -47,7 +47,7 @@ returns-2 c =
     let e =
     word-2 (a .n) (a .received .now) (a .word .now) (allowed (c .before .before))
     (λ e. c .if2 .taken (e ∙ sym (c .before .row-bytes .ensures))) in
-    (ap said (e .0), e .1)
+    (ap saidOf (e .0), e .1)
 
 row-bytes-requires-2 : tie.Need-row-bytes-requires-2
 row-bytes-requires-2 c κs = inside (c .before .before .before .before .before .before .args .n) (allowed (c .before .before)) .1
@@ -59,7 +59,7 @@ returns-3 c =
     word-3 (a .n) (a .received .now) (a .word .now) (allowed (c .before .before .before .before))
     (c .before .before .if2 .left ∙ c .before .before .before .row-bytes .ensures)
     (λ e. c .if3 .taken (e ∙ sym (c .before .row-bytes2 .ensures))) in
-    (ap said (e .0), e .1)
+    (ap saidOf (e .0), e .1)
 
 copy-word-requires : tie.Need-copy-word-requires
 copy-word-requires c κs = let f = fits (c .before) in (f .upTo, f .taken, f .lent)

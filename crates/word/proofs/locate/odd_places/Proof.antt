@@ -6,7 +6,7 @@ use native.Mathlib.Omega.{arith}
 use borrow.Author.Needs.{needs}
 use Rattle.rules.proofs.Laws.FieldLaws.{logarithm-small}
 use Rattle.laws.proofs.LocatedLaws.{cube-is, odd-beyond, odd-zero, odd-one, cut-away}
-use Rattle.word.specs.Said.{told}
+use Rattle.word.specs.Said.{answerOf}
 use Rattle.word.proofs.locate.odd_places.Statement.{statement}
 use Rattle.word.proofs.locate.odd_places.Tie as tie
 
@@ -20,7 +20,7 @@ returns : tie.Need-returns
 returns c =
     let a = c .before .before .before .args in
     let q = cube-is (a .s1) _ _ (c .before .before .product .ensures) (c .before .product2 .ensures) in
-    λ x l o s. ap told (sym (odd-beyond (a .n) (a .s1) (a .s3) (omega arith) (omega arith) (λ k. c .if1 .taken (q ∙ k)) x l o s))
+    λ x l o s. ap answerOf (sym (odd-beyond (a .n) (a .s1) (a .s3) (omega arith) (omega arith) (λ k. c .if1 .taken (q ∙ k)) x l o s))
 
 sub-t8 : tie.Need-sub-t8
 sub-t8 c = search needs
@@ -30,7 +30,7 @@ returns-2 c =
     let a = c .before .before .before .before .args in
     let q = cube-is (a .s1) _ _ (c .before .before .before .product .ensures) (c .before .before .product2 .ensures) in
     λ x l o s.
-    ap told (sym (odd-zero (a .n) (a .s1) (a .s3) (omega arith) (omega arith) (sym q ∙ c .before .if1 .left) (c .if2 .taken) x l o s))
+    ap answerOf (sym (odd-zero (a .n) (a .s1) (a .s3) (omega arith) (omega arith) (sym q ∙ c .before .if1 .left) (c .if2 .taken) x l o s))
 
 log-requires : tie.Need-log-requires
 log-requires c κs = search needs
@@ -44,7 +44,7 @@ returns-3 c =
     let a = d .before .before .before .args in
     let q = cube-is (a .s1) _ _ (d .before .before .product .ensures) (d .before .product2 .ensures) in
     λ x l o s.
-    ap told
+    ap answerOf
     (sym
     (cut-away (a .n) (a .s1) (a .s3) (omega arith) (omega arith) (sym q ∙ d .if1 .left) (c .before .before .if2 .left) (omega arith) _
     (c .before .log .ensures) (omega arith) true x l o s))
@@ -61,7 +61,7 @@ returns-4 c =
     let a = d .before .before .before .args in
     let q = cube-is (a .s1) _ _ (d .before .before .product .ensures) (d .before .product2 .ensures) in
     λ x l o s.
-    ap told
+    ap answerOf
     (sym
     (odd-one (a .n) (a .s1) (a .s3) (omega arith) (omega arith) (sym q ∙ d .if1 .left) (c .before .before .if2 .left) (omega arith) _
     (c .before .log .ensures) (omega arith) x l o s))

@@ -3,9 +3,9 @@
 use mathlib.Core.Path.{_≡_, sym, ap}
 use Prim.Native.Nat.{_-_, _≤_}
 use native.Mathlib.Omega.{arith}
-use Rattle.laws.specs.Located.{AllAlone}
+use Rattle.laws.specs.Search.{AllAlone}
 use Rattle.laws.proofs.LocatedLaws.{even-two, even-beyond}
-use Rattle.word.specs.Said.{told}
+use Rattle.word.specs.Said.{answerOf}
 use Rattle.laws.proofs.LocateSteps.{alone-none, alone-more}
 use borrow.Author.Needs.{needs}
 use Rattle.word.proofs.locate.two_places.Statement.{statement}
@@ -30,7 +30,7 @@ returns : tie.Need-returns Inv-loop μ-loop
 returns c =
     let a = c .before .before .before .before .args in
     λ x l o s.
-    ap told
+    ap answerOf
     (sym (even-two (a .n) (a .s1) (a .s3) (omega arith) (omega arith) _ _ (c .before .partner .ensures) (c .if1 .taken) x l o s))
 
 add-p : tie.Need-add-p Inv-loop μ-loop
@@ -51,7 +51,7 @@ returns-2 c =
     let a = c .before .before .args in
     let q : c .before .loop .p ≡ a .n - 1 = omega arith in
     let k = rw q at (c .before .loop .inv .2) in
-    λ x l o s. ap told (sym (even-beyond (a .n) (a .s1) (a .s3) (omega arith) (omega arith) (c .before .before .pre .2) k x l o s))
+    λ x l o s. ap answerOf (sym (even-beyond (a .n) (a .s1) (a .s3) (omega arith) (omega arith) (c .before .before .pre .2) k x l o s))
 
 pub two-places-spec : {M : Type 1} → statement M
 two-places-spec =

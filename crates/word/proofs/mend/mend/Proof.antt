@@ -12,7 +12,7 @@ use Rattle.laws.specs.InPlace.{wordAt, flipAt, put, Inside}
 use Rattle.laws.proofs.InPlaceLaws.{Bytes, wordAt-length}
 use Rattle.laws.proofs.CheckLoopLaws.{place-inside}
 use Rattle.laws.proofs.MendLaws.{flips, places-rise, located-answer, mend-in-place}
-use Rattle.word.specs.Said.{told}
+use Rattle.word.specs.Said.{answerOf}
 use Rattle.word.specs.declared.locate.Answer.{Answer}
 use Rattle.word.specs.declared.locate.Answer.the-variants.{Codeword, OnePlace, TwoPlaces, Beyond}
 use Rattle.word.proofs.mend.mend.Statement.{statement}
@@ -25,7 +25,7 @@ named (OnePlace p) = p ∷ []
 named (TwoPlaces p q) = p ∷ q ∷ []
 named Beyond = []
 
-told-named : (a : rules.Answer) → rules.places a ≡ named (told a)
+told-named : (a : rules.Answer) → rules.places a ≡ named (answerOf a)
 told-named rules.codeword = refl
 told-named (rules.onePlace p) = refl
 told-named (rules.twoPlaces p q) = refl
@@ -34,7 +34,7 @@ told-named rules.beyond = refl
 -- the answer r to the word that starts at `start` and goes by `step`: its places lie within the word, and are to be flipped
 module _
     (n : ℕ) (s : List ℕ) (start step : ℕ) (h : Inside n s start step) (r : Answer)
-    (e : r ≡ told (rules.answer n (wordAt n s start step)))
+    (e : r ≡ answerOf (rules.answer n (wordAt n s start step)))
   where
     places : rules.places (rules.answer n (wordAt n s start step)) ≡ named r
     places = told-named (rules.answer n (wordAt n s start step)) ∙ ap named (sym e)
@@ -44,17 +44,17 @@ module _
 
     mended :
         (t : List ℕ) → Bytes s → t ≡ flips s start step (named r)
-        → (r ≡ told (rules.answer n (wordAt n s start step))) × (t ≡ put n s start step (rules.mend n (wordAt n s start step)))
+        → (r ≡ answerOf (rules.answer n (wordAt n s start step))) × (t ≡ put n s start step (rules.mend n (wordAt n s start step)))
     mended t b q = (e, q ∙ ap (flips s start step) (sym places) ∙ mend-in-place n s start step h b)
 
 -- what is known once the answer is there: it is the word's
 says :
     (c : tie.After-locate) → let a = c .before .before .before .before .args in
-    c .locate .result ≡ told (rules.answer (a .n) (wordAt (a .n) (a .s .now) (a .start) (a .step)))
+    c .locate .result ≡ answerOf (rules.answer (a .n) (wordAt (a .n) (a .s .now) (a .start) (a .step)))
 says c =
     let a = c .before .before .before .before .args in
     c .locate .ensures
-    ∙ ap told (located-answer (a .n) (wordAt (a .n) (a .s .now) (a .start) (a .step)) (c .before .checks .result) (c .before .checks .ensures .0))
+    ∙ ap answerOf (located-answer (a .n) (wordAt (a .n) (a .s .now) (a .start) (a .step)) (c .before .checks .result) (c .before .checks .ensures .0))
 
 -- the places that it names lie inside the buffer
 one-inside :
@@ -81,7 +81,7 @@ two-inside c p q e =
 done :
     (c : tie.After-locate) (r : Answer) (t : List ℕ) → c .locate .result ≡ r → let a = c .before .before .before .before .args in
     t ≡ flips (a .s .now) (a .start) (a .step) (named r)
-    → (r ≡ told (rules.answer (a .n) (wordAt (a .n) (a .s .now) (a .start) (a .step))))
+    → (r ≡ answerOf (rules.answer (a .n) (wordAt (a .n) (a .s .now) (a .start) (a .step))))
     × (t ≡ put (a .n) (a .s .now) (a .start) (a .step) (rules.mend (a .n) (wordAt (a .n) (a .s .now) (a .start) (a .step))))
 done c r t e =
     let a = c .before .before .before .before .args in
