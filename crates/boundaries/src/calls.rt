@@ -1,15 +1,14 @@
 // One call of each entry point, on lent parts of the given lengths: `.._call` lends them, `.._line` calls and prints.
 use crate::show::number;
+use crate::show::show_ending;
+use crate::show::show_said;
 use crate::show::text;
 use crate::show::touched;
-use frame::decode::Ending;
 use frame::decode::decode;
 use frame::encode::encode;
 use frame::read::read;
 use frame::row::row;
-use word::decode::Said;
 use word::decode::decode_word;
-use word::locate::Answer;
 
 // What the output holds before each call.
 const MARK: u8 = 165;
@@ -72,28 +71,17 @@ pub fn read_call(n: usize, takes: usize, gives: usize) {
     read_line(n, &from[0..takes], &mut to[0..gives]);
 }
 
-// Document 01's number of an ending.
-fn ending_number(ending: Ending) -> usize {
-    match ending {
-        Ending::Clean => 0,
-        Ending::Repaired => 0,
-        Ending::Stuck => 7,
-        Ending::Spent => 8,
-        Ending::Refused(r) => r as usize,
-    }
-}
-
-fn decode_line(n: usize, allowance: usize, from: &mut [u8], to: &mut [u8]) {
+fn decode_line(n: usize, allowance: usize, ones: usize, from: &mut [u8], to: &mut [u8]) {
     text(b"decode");
     number(n);
     number(allowance);
     number(from.len());
     number(to.len());
-    fill(from, 6, 255);
+    fill(from, ones, 255);
     let r = decode(n, allowance, from, to);
     let ending = r.ending;
     text(b":");
-    number(ending_number(ending));
+    show_ending(ending);
     number(r.passes);
     number(r.flips);
     number(r.rows);
@@ -101,8 +89,8 @@ fn decode_line(n: usize, allowance: usize, from: &mut [u8], to: &mut [u8]) {
     touched(to, MARK);
 }
 
-// A frame that is all zero but for its first six bytes: at n = 18 those are two rows of ones.
-pub fn decode_call(n: usize, allowance: usize, takes: usize, gives: usize) {
+// A frame that is all zero but for its first `ones` bytes: at n = 18 six of them are two rows of ones.
+pub fn decode_call(n: usize, allowance: usize, ones: usize, takes: usize, gives: usize) {
     if MOST < takes {
         return;
     }
@@ -111,7 +99,7 @@ pub fn decode_call(n: usize, allowance: usize, takes: usize, gives: usize) {
     }
     let mut from = [0u8; MOST];
     let mut to = [MARK; MOST];
-    decode_line(n, allowance, &mut from[0..takes], &mut to[0..gives]);
+    decode_line(n, allowance, ones, &mut from[0..takes], &mut to[0..gives]);
 }
 
 // The row's length; it has no output.
@@ -135,19 +123,6 @@ pub fn row_call(n: usize, takes: usize, i: usize) {
     row_line(n, &from[0..takes], i);
 }
 
-// Document 01's number of what is said of a word.
-fn word_number(said: Said) -> usize {
-    match said {
-        Said::Refused(r) => r as usize,
-        Said::Answered(answer) => match answer {
-            Answer::Codeword => 0,
-            Answer::OnePlace(_) => 0,
-            Answer::TwoPlaces(_, _) => 0,
-            Answer::Beyond => 9,
-        },
-    }
-}
-
 fn word_line(n: usize, from: &mut [u8], to: &mut [u8]) {
     text(b"word");
     number(n);
@@ -156,7 +131,7 @@ fn word_line(n: usize, from: &mut [u8], to: &mut [u8]) {
     fill(from, 1, 192);
     let r = decode_word(n, from, to);
     text(b":");
-    number(word_number(r));
+    show_said(r);
     touched(to, MARK);
 }
 

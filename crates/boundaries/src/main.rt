@@ -39,22 +39,23 @@ fn read_calls() {
 }
 
 fn decode_calls() {
-    decode_call(17, 2, 51, 51);
-    decode_call(18, 2, 54, 54);
-    decode_call(18, 2, 53, 54);
-    decode_call(18, 2, 55, 54);
-    decode_call(18, 2, 54, 53);
-    decode_call(18, 2, 54, 55);
-    decode_call(18, 2, 0, 0);
-    decode_call(18, 0, 54, 54);
-    decode_call(18, 1, 54, 54);
-    decode_call(18, 32, 54, 54);
-    decode_call(18, 33, 54, 54);
-    decode_call(18, HUGE, 54, 54);
-    decode_call(256, 2, 8192, 8192);
-    decode_call(256, 2, 8191, 8192);
-    decode_call(257, 2, 8192, 8192);
-    decode_call(HUGE, 2, 0, 0);
+    decode_call(17, 2, 6, 51, 51);
+    decode_call(18, 2, 0, 54, 54);
+    decode_call(18, 2, 6, 54, 54);
+    decode_call(18, 2, 6, 53, 54);
+    decode_call(18, 2, 6, 55, 54);
+    decode_call(18, 2, 6, 54, 53);
+    decode_call(18, 2, 6, 54, 55);
+    decode_call(18, 2, 6, 0, 0);
+    decode_call(18, 0, 6, 54, 54);
+    decode_call(18, 1, 6, 54, 54);
+    decode_call(18, 32, 6, 54, 54);
+    decode_call(18, 33, 6, 54, 54);
+    decode_call(18, HUGE, 6, 54, 54);
+    decode_call(256, 2, 6, 8192, 8192);
+    decode_call(256, 2, 6, 8191, 8192);
+    decode_call(257, 2, 6, 8192, 8192);
+    decode_call(HUGE, 2, 6, 0, 0);
 }
 
 fn row_calls() {

@@ -1,5 +1,8 @@
 // Lines of the report.
+use frame::decode::Ending;
 use libc::STDOUT_FILENO;
+use word::decode::Said;
+use word::locate::Answer;
 
 pub fn text(s: &[u8]) {
     io::write_all(STDOUT_FILENO, s);
@@ -8,6 +11,45 @@ pub fn text(s: &[u8]) {
 pub fn number(x: usize) {
     io::write_all(STDOUT_FILENO, b" ");
     io::print_decimal(STDOUT_FILENO, x as u64);
+}
+
+pub fn show_ending(ending: Ending) {
+    match ending {
+        Ending::Clean => text(b" clean"),
+        Ending::Repaired => text(b" repaired"),
+        Ending::Stuck => text(b" stuck"),
+        Ending::Spent => text(b" spent"),
+        Ending::Refused(r) => {
+            text(b" refused");
+            number(r as usize);
+        }
+    }
+}
+
+fn show_answer(answer: Answer) {
+    match answer {
+        Answer::Codeword => text(b" codeword"),
+        Answer::OnePlace(p) => {
+            text(b" one place");
+            number(p);
+        }
+        Answer::TwoPlaces(p, q) => {
+            text(b" two places");
+            number(p);
+            number(q);
+        }
+        Answer::Beyond => text(b" beyond"),
+    }
+}
+
+pub fn show_said(said: Said) {
+    match said {
+        Said::Refused(r) => {
+            text(b" refused");
+            number(r as usize);
+        }
+        Said::Answered(answer) => show_answer(answer),
+    }
 }
 
 // Whether the output still holds what was put there before the call.
