@@ -1,4 +1,4 @@
--- The steps of the code that locates: the values at a and a^3 bit by bit, the partner of a place, place after place.
+-- The steps of the code that locates: the values at a and a^3 bit by bit, a single place, the partner of a place, place after place.
 -- Assumes nothing.
 use mathlib.Core.Path.{_≡_, sym, ap, ap₂, _∙_}
 use mathlib.Core.Logic.{_≢_}
@@ -11,10 +11,10 @@ use Rattle.algebra.specs.Xor.{_⊕_}
 use Rattle.algebra.specs.Linear.{lin}
 use Rattle.algebra.specs.Tables.{tab, tabFrom}
 use Rattle.algebra.proofs.XorLaws.{⊕-zero, zero-⊕, ⊕-assoc, ⊕-comm, ⊕-cancel, ⊕-lt}
-use Rattle.rules.specs.Field.{power, logarithm}
-use Rattle.rules.proofs.Laws.FieldLaws.{power-small, power-some, power-logarithm, logarithm-power}
+use Rattle.rules.specs.Field.{power, logarithm, product}
+use Rattle.rules.proofs.Laws.FieldLaws.{power-small, power-some, power-logarithm, logarithm-power, product-powers, product-zero-right}
 use Rattle.laws.specs.Located.{valueOf, Sums}
-use Rattle.laws.specs.Search.{Alone, AllAlone, Partner}
+use Rattle.laws.specs.Search.{NoSingle, Single, Alone, AllAlone, Partner}
 
 -- ---- the two values, from the lowest bit up
 
@@ -82,6 +82,65 @@ summed-skip x i left s1 s3 t1 t3 h o q1 q3 k =
 pub summed-all : (x i left s1 s3 : ℕ) → 16 ≤ i → Summed x i left s1 s3 → Sums x s1 s3
 unfolding Summed
 summed-all x i left s1 s3 h k = (upto-all 1 x i left s1 h (k .0), upto-all 3 x i left s3 h (k .1))
+
+-- ---- the single place: s3 is the cube of s1, and e is the logarithm of s1
+
+cube : ℕ → ℕ
+cube x = product (product x x) x
+
+cube-power : (e : ℕ) → cube (power e) ≡ power (3 * e)
+unfolding cube
+cube-power e =
+    let q : e + e + e ≡ 3 * e = omega arith in
+    ap (λ x. product x (power e)) (product-powers e e) ∙ product-powers (e + e) e ∙ ap power q
+
+cube-zero : cube 0 ≡ 0
+unfolding cube
+cube-zero = product-zero-right (product 0 0)
+
+single-none : (n s1 s3 : ℕ) → NoSingle n s1 s3 → Single n s1 s3 n
+single-none n s1 s3 k = record { last = λ h. absurd (omega arith); front = λ h. absurd (omega arith); none = λ h. k }
+
+module _ (n s1 s3 x y : ℕ) (large : 18 ≤ n) (small : n ≤ 256) (qx : x ≡ product s1 s1) (qy : y ≡ product x s1) where
+  is-cube : y ≡ cube s1
+  unfolding cube
+  is-cube = qy ∙ ap (λ m. product m s1) qx
+
+  pub not-its-cube : y ≢ s3 → Single n s1 s3 n
+  not-its-cube k =
+      single-none n s1 s3
+      (record {
+        no-last = λ q1 q3. k (is-cube ∙ ap cube q1 ∙ cube-zero ∙ sym q3);
+        no-front = λ e h t. k (is-cube ∙ ap cube (t .0) ∙ cube-power e ∙ sym (t .1));
+      })
+
+  module _ (k : y ≡ s3) where
+    pub parity-found : s1 ≡ 0 → Single n s1 s3 (n - 1)
+    parity-found z =
+        record {
+          last = λ h. (z, sym k ∙ is-cube ∙ ap cube z ∙ cube-zero);
+          front = λ h. absurd (omega arith);
+          none = λ h. absurd (omega arith);
+        }
+
+    module _ (z : s1 ≢ 0) (e : ℕ) (qe : e ≡ logarithm s1) where
+      pub cut-away : n < e + 2 → Single n s1 s3 n
+      cut-away i =
+          single-none n s1 s3
+          (record {
+            no-last = λ q1 q3. z q1;
+            no-front = λ f h t. omega (arith, qe, ap logarithm (t .0) ∙ logarithm-power f (omega arith));
+          })
+
+      pub single-found : s1 < 256 → e + 2 ≤ n → Single n s1 s3 (n - 2 - e)
+      single-found b i =
+          let r : n - 2 - (n - 2 - e) ≡ e = omega arith in
+          let q : s1 ≡ power e = sym (ap power qe ∙ power-logarithm s1 z b) in
+          record {
+            last = λ h. absurd (omega arith);
+            front = λ h. rw r (q, sym k ∙ is-cube ∙ ap cube q ∙ cube-power e);
+            none = λ h. absurd (omega arith);
+          }
 
 -- ---- the partner of place p: x is the power there, f the logarithm of what is left of s1
 

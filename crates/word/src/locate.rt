@@ -3,14 +3,12 @@ use field::log;
 use field::power;
 use field::product;
 ghost use mathlib.Core.Path.{_≡_};
-ghost use mathlib.Core.Logic.{_≢_};
 ghost use mathlib.Core.Bool.{true, false};
 ghost use Prim.Native.Nat.{_+_, _≤_, _<_};
-ghost use Rattle.rules.specs.Field.{product};
 ghost use Rattle.word.specs.Said.{answerOf};
 ghost use Rattle.word.specs.Locates.{Locates};
 ghost use Rattle.laws.specs.Located.{located, Sums};
-ghost use Rattle.laws.specs.Search.{Partner};
+ghost use Rattle.laws.specs.Search.{NoSingle, Single, Partner};
 
 pub enum Answer {
     Codeword,
@@ -42,22 +40,35 @@ fn power_sums(remainder: u32) -> PowerSums
     PowerSums { s1, s3 }
 }
 
-// An odd number of places: the parity bit alone, one other place, or more than two.
+// The place whose own values these are, the parity bit's being zero; n where there is none.
+fn one_place(n: usize, s1: u8, s3: u8) -> usize
+    requires { ⌜ (18 ≤ n) × (n ≤ 256) ⌝ }
+    ensures { λ p. ⌜ Single n s1 s3 p ⌝ }
+{
+    if product(product(s1, s1), s1) != s3 {
+        return n;
+    }
+    if s1 == 0 {
+        return n - 1;
+    }
+    let e = log(s1);
+    if n < e + 2 {
+        return n; // a place that was cut away
+    }
+    n - 2 - e
+}
+
+// An odd number of places: one, or more than two.
 fn odd_places(n: usize, s1: u8, s3: u8) -> Answer
     requires { ⌜ (18 ≤ n) × (n ≤ 256) ⌝ }
     ensures { λ r. ⌜ Locates n true s1 s3 r ⌝ }
 {
-    if product(product(s1, s1), s1) != s3 {
-        return Answer::Beyond;
+    let p = one_place(n, s1, s3);
+    if p < n {
+        Answer::OnePlace(p)
+    } else {
+        Answer::Beyond
     }
-    if s1 == 0 {
-        return Answer::OnePlace(n - 1);
-    }
-    let e = log(s1);
-    if n < e + 2 {
-        return Answer::Beyond; // a place that was cut away
-    }
-    Answer::OnePlace(n - 2 - e)
 }
 
 // The place after p with which p gives the two sums; n where there is none.
@@ -83,7 +94,7 @@ fn partner(n: usize, s1: u8, s3: u8, p: usize) -> usize
 
 // Two places, neither of them the parity bit: each tried in turn as the lower one.
 fn two_places(n: usize, s1: u8, s3: u8) -> Answer
-    requires { ⌜ (18 ≤ n) × (n ≤ 256) × (product (product s1 s1) s1 ≢ s3) ⌝ }
+    requires { ⌜ (18 ≤ n) × (n ≤ 256) × NoSingle n s1 s3 ⌝ }
     ensures { λ r. ⌜ Locates n false s1 s3 r ⌝ }
 {
     for p in 0..n - 1 {
@@ -100,17 +111,15 @@ fn even_places(n: usize, s1: u8, s3: u8) -> Answer
     requires { ⌜ (18 ≤ n) × (n ≤ 256) ⌝ }
     ensures { λ r. ⌜ Locates n false s1 s3 r ⌝ }
 {
-    if product(product(s1, s1), s1) != s3 {
+    let p = one_place(n, s1, s3);
+    if n <= p {
         return two_places(n, s1, s3);
     }
-    if s1 == 0 {
-        return Answer::Codeword;
+    if p == n - 1 {
+        Answer::Codeword
+    } else {
+        Answer::TwoPlaces(p, n - 1)
     }
-    let e = log(s1);
-    if n < e + 2 {
-        return Answer::Beyond;
-    }
-    Answer::TwoPlaces(n - 2 - e, n - 1)
 }
 
 pub fn locate(n: usize, checks: u32) -> Answer
