@@ -1,18 +1,15 @@
 -- The tables of the 256-element field are what they say, and what follows for numbers.
 -- Assumes nothing.
 use mathlib.Core.Path.{_≡_}
-use mathlib.Core.List.{List, []}
-use Prim.Native.Nat.{ℕ, _+_, _*_, _≤_, _<_, Fin}
-use lib.ListN.{length, getD}
+use Prim.Native.Nat.{ℕ, _≤_, _<_, Fin}
+use lib.ListN.{getD}
 use Rattle.algebra.specs.Xor.{_⊕_}
 use Rattle.algebra.specs.Register.{iter, turn}
-use Rattle.algebra.specs.Sums.{AllN, Different, xsum}
 use Rattle.algebra.specs.LogTables.{follows, inverts, Tables}
 use Rattle.algebra.specs.Field256.{powers, logs}
-use Rattle.algebra.proofs.LogTableLaws.{powers-at, round, powers-logs, logs-lt, logs-powers, power-injective}
+use Rattle.algebra.proofs.LogTableLaws.{powers-at, round, powers-logs, logs-lt, power-injective}
 use Rattle.algebra.proofs.Field.{Field2}
 use Rattle.algebra.proofs.RegisterField.{field}
-use Rattle.algebra.proofs.PlacesIndependent.{places-independent}
 
 -- the one place where the tables are computed with
 pub tables256 : Tables 7 29 powers logs
@@ -35,13 +32,5 @@ powers256-logs = powers-logs 7 29 powers logs tables256
 pub logs256-lt : (x : ℕ) → 1 ≤ x → x < 256 → getD logs x 0 < 255
 logs256-lt = logs-lt 7 29 powers logs tables256
 
-pub logs256-powers : (i : ℕ) → i < 255 → getD logs (getD powers i 0) 0 ≡ i
-logs256-powers = logs-powers 7 29 powers logs tables256
-
 pub power256-injective : (i j : ℕ) → i < 255 → j < 255 → iter i (turn 7 29) 1 ≡ iter j (turn 7 29) 1 → i ≡ j
 power256-injective = power-injective 7 29 powers logs tables256
-
-pub places256-independent :
-    (t : ℕ) (es : List ℕ) → Different es → AllN (λ e. e < 255) es → length es ≤ 2 * t
-    → ((r : ℕ) → r < t → xsum (λ e. iter ((2 * r + 1) * e) (turn 7 29) 1) es ≡ 0) → es ≡ []
-places256-independent = places-independent 7 29 powers logs tables256

@@ -21,10 +21,10 @@ use Rattle.frame.specs.Said.{endingOf, onlyEnding, reportOf, isFailure}
 
 -- a report of the outcome, and the buffer its frame
 pub reported :
-    (n a : ℕ) (f : Frame) (s : List ℕ) (e : passes.Ending) (p x r c : ℕ) → Ended n a f s e p x r c
+    {n a : ℕ} {f : Frame} {s : List ℕ} {e : passes.Ending} {p x r c : ℕ} → Ended n a f s e p x r c
     → (record { ending = endingOf e; passes = p; flips = x; rows = r; columns = c } ≡ reportOf (outcome.told (decoded n a f)))
     × (s ≡ bytesOf n (decoded n a f .last))
-reported n a f s e p x r c h =
+reported {n = n} h =
     (ap (λ o. reportOf (outcome.told o)) (sym (h .outcome)), h .packed ∙ ap (λ o. bytesOf n (o .last)) (sym (h .outcome)))
 
 -- a refusal leaves the output as it was

@@ -18,7 +18,6 @@ use Rattle.rules.specs.Bits.{rowBytes, stride, squareBytes, bitAt, wordOf, fram
 use Rattle.rules.proofs.Laws.Shape.{square-tab, Square, square-ext, corner-square, corner-cell, bit-past, bit-tab, row-tab, frameOf-cell, frameOf-square, wordOf-length, wordOf-bit}
 use Rattle.rules.proofs.Laws.PackLaws.{frame-of-bytes, bytesOf-length, bytes-of-frame, spares-of-bytes}
 use Rattle.laws.specs.Turns.{cornered, Ready}
-use Rattle.laws.proofs.CopyLaws.{Agree, agree-all}
 
 -- ---- sizes, where w stands for the bytes of a row
 
@@ -163,10 +162,9 @@ whole-is : (n : ℕ) (s : List ℕ) → whole n s ≡ bytesOf n (frameOf n s)
 whole-is n s = ap (bytesOf n) (cornered-whole n (frameOf n s) (frameOf-square n s))
 
 -- every byte is what its row's own bits make it: no spare bit is set
-pub packed-yes : (n : ℕ) (s : List ℕ) (p : ℕ) → length s ≤ p → length s ≡ squareBytes n → Agree p s (whole n s) → true ≡ eqb (spareOnes n s) 0
-packed-yes n s p h e a =
-    let same : s ≡ bytesOf n (frameOf n s) = agree-all p s (whole n s) h (e ∙ sym (bytesOf-length n (cornered n n (frameOf n s)))) a ∙ whole-is n s in
-    sym (eq-eqb (spareOnes n s) 0 (ap (spareOnes n) same ∙ spares-of-bytes n (frameOf n s) (frameOf-square n s)))
+pub packed-yes : (n : ℕ) (s : List ℕ) → s ≡ whole n s → true ≡ eqb (spareOnes n s) 0
+packed-yes n s e =
+    sym (eq-eqb (spareOnes n s) 0 (ap (spareOnes n) (e ∙ whole-is n s) ∙ spares-of-bytes n (frameOf n s) (frameOf-square n s)))
 
 -- one is not: some spare bit is
 pub packed-no :

@@ -104,12 +104,12 @@ passing-none n columns s r = record {
 }
 
 pub passing-more :
-    (n : ℕ) (f : Frame) (columns : Bool) (s : List ℕ) (changes k r : ℕ) (t : List ℕ)
-    → Square n f → Whole n s → k < n → Passing n f columns s changes k
+    {n : ℕ} {f : Frame} {columns : Bool} {s : List ℕ} {changes k r : ℕ} {t : List ℕ}
+    → Passing n f columns s changes k → Square n f → Whole n s → k < n
     → r ≡ flipsOf n (turned n columns (frameOf n s)) k → r ≤ 2
     → t ≡ put n s (startOf n columns k) (stepOf n columns) (mend n (row (turned n columns (frameOf n s)) k))
     → Passing n f columns t (changes + r) (k + 1)
-passing-more n f columns s changes k r t q w h p e b put-is =
+passing-more {n = n} {f = f} {columns = columns} {s = s} {k = k} p q w h e b put-is =
     record {
       within = omega arith;
       done = put-is ∙ ap (λ u. put n s (startOf n columns k) (stepOf n columns) (mend n u)) same
@@ -125,6 +125,11 @@ passing-more n f columns s changes k r t q w h p e b put-is =
         (ap (frameOf n) (p .done)
         ∙ frame-of-bytes n (worked n columns (mend n) k f) (worked-square n columns (mend n) k f (mend-keeps n) q))
         ∙ worked-later n columns (mend n) k k f (mend-keeps n) q (omega arith) h
+
+-- none is left
+pub passing-all :
+    {n : ℕ} {f : Frame} {columns : Bool} {s : List ℕ} {changes k : ℕ} → Passing n f columns s changes k → n ≤ k → Passing n f columns s changes n
+passing-all {n = n} {k = k} p all = let e : k ≡ n = omega (arith, p .within) in rw e at p
 
 -- ---- the passes
 
@@ -159,9 +164,9 @@ repairing-none n a s r h t = record {
 
 -- in the midst of a pass the buffer is still one of a frame's size
 pub passing-whole :
-    (n a : ℕ) (f : Frame) (s : List ℕ) (made flips : ℕ) (columns : Bool) (t : List ℕ) (changes k : ℕ)
+    {n a : ℕ} {f : Frame} {s : List ℕ} {made flips : ℕ} {columns : Bool} {t : List ℕ} {changes k : ℕ}
     → Repairing n a f s made flips → Passing n (frameOf n s) columns t changes k → Whole n t
-passing-whole n a f s made flips columns t changes k r p =
+passing-whole {n = n} {s = s} {columns = columns} {k = k} r p =
     (r .ready .0 .0, r .ready .0 .1, ap length (p .done) ∙ bytesOf-length n (worked n columns (mend n) k (frameOf n s)))
 
 -- no row and no column is bad
@@ -196,14 +201,21 @@ ended-clean n a s rows columns r hr hc z = record {
   packed = r .1;
 }
 
--- a pass made: all its words are mended, and the bad ones counted
+-- a pass made from s to t: all its words are mended, by rows or by columns, and the bad ones counted
+pub record Made (n a : ℕ) (f : Frame) (s : List ℕ) (made flips : ℕ) (t : List ℕ) (changes rows columns : ℕ) : Type 0 where
+  pub before : Repairing n a f s made flips
+  pub by-columns : Bool
+  pub mended : Passing n (frameOf n s) by-columns t changes n
+  pub rows-bad : rows ≡ badRows n (turned n false (frameOf n t))
+  pub columns-bad : columns ≡ badRows n (turned n true (frameOf n t))
+
+-- and its direction is the rule's
 module _
-    (n a : ℕ) (f : Frame) (s : List ℕ) (made flips : ℕ) (r : Repairing n a f s made flips)
-    (t : List ℕ) (changes k : ℕ) (mended : Passing n (frameOf n s) (isOdd made) t changes k) (all : n ≤ k)
-    (rows columns : ℕ) (hr : rows ≡ badRows n (turned n false (frameOf n t))) (hc : columns ≡ badRows n (turned n true (frameOf n t)))
+    {n a : ℕ} {f : Frame} {s : List ℕ} {made flips : ℕ} {t : List ℕ} {changes rows columns : ℕ}
+    (m : Made n a f s made flips t changes rows columns) (turn : m .by-columns ≡ isOdd made)
   where
     p : Passing n (frameOf n s) (isOdd made) t changes n
-    p = let e : k ≡ n = omega (arith, mended .within) in rw e at mended
+    p = rw turn at (m .mended)
 
     abbrev after : Frame
     after = pass n (suc made) (frameOf n s)
@@ -220,8 +232,7 @@ module _
     t-frame = ap (frameOf n) t-bytes ∙ frame-of-bytes n after after-square
 
     pass-ready : Ready n t
-    pass-ready =
-        (passing-whole n a f s made flips (isOdd made) t changes k r mended, t-bytes ∙ ap (bytesOf n) (sym t-frame))
+    pass-ready = (passing-whole (m .before) p, t-bytes ∙ ap (bytesOf n) (sym t-frame))
 
     so : {e : Ending} {p fl x y : ℕ} → decoded n a f ≡ outcomeIn n t e p fl x y → Ended n a f t e p fl x y
     so o = record { outcome = o; packed = pass-ready .1 }
@@ -237,20 +248,20 @@ module _
 
     begun : decoded n a f ≡ passesFrom n f (suc (a - (made + 1))) made flips (frameOf n s)
     begun =
-        let left : a - made ≡ suc (a - (made + 1)) = omega (arith, r .allowed) in
-        r .same ∙ ap (λ m. passesFrom n f m made flips (frameOf n s)) left
+        let left : a - made ≡ suc (a - (made + 1)) = omega (arith, m .before .allowed) in
+        m .before .same ∙ ap (λ m. passesFrom n f m made flips (frameOf n s)) left
 
     rows-are : badRows n after ≡ rows
-    rows-are = ap (badRows n) (sym t-frame) ∙ sym (rows-is n (frameOf n t) rows columns hr hc)
+    rows-are = ap (badRows n) (sym t-frame) ∙ sym (rows-is n (frameOf n t) rows columns (m .rows-bad) (m .columns-bad))
 
     columns-are : badColumns n after ≡ columns
-    columns-are = ap (badColumns n) (sym t-frame) ∙ sym (columns-is n (frameOf n t) rows columns hr hc)
+    columns-are = ap (badColumns n) (sym t-frame) ∙ sym (columns-is n (frameOf n t) rows columns (m .rows-bad) (m .columns-bad))
 
     whole : rows + columns ≡ 0 → isFrame n after ≡ true
-    whole z = ap (isFrame n) (sym t-frame) ∙ frame-whole n (frameOf n t) rows columns hr hc z
+    whole z = ap (isFrame n) (sym t-frame) ∙ frame-whole n (frameOf n t) rows columns (m .rows-bad) (m .columns-bad) z
 
     torn : rows + columns ≢ 0 → isFrame n after ≡ false
-    torn z = ap (isFrame n) (sym t-frame) ∙ frame-torn n (frameOf n t) rows columns hr hc z
+    torn z = ap (isFrame n) (sym t-frame) ∙ frame-torn n (frameOf n t) rows columns (m .rows-bad) (m .columns-bad) z
 
     pub ended-repaired : rows + columns ≡ 0 → Ended n a f t repaired (made + 1) (flips + changes) rows columns
     ended-repaired z =
@@ -288,14 +299,14 @@ module _
         ∙ step-spent n f (made + 1) (flips + changes) (frameOf n t)
         ∙ outcome-ext spent (made + 1) (made + 1) (flips + changes) (flips + changes)
         (badRows n (frameOf n t)) rows (badColumns n (frameOf n t)) columns (frameOf n t) (frameOf n t)
-        refl refl (sym (rows-is n (frameOf n t) rows columns hr hc)) (sym (columns-is n (frameOf n t) rows columns hr hc)) refl)
+        refl refl (sym (rows-is n (frameOf n t) rows columns (m .rows-bad) (m .columns-bad))) (sym (columns-is n (frameOf n t) rows columns (m .rows-bad) (m .columns-bad))) refl)
 
     pub repairing-more :
         rows + columns ≢ 0 → isStuck (made + 1) changes ≡ false → made + 1 ≢ a
         → Repairing n a f t (made + 1) (flips + changes)
     repairing-more z moved some = record {
       ready = pass-ready;
-      allowed = omega (arith, r .allowed);
-      few = omega (arith, r .few, p .few, r .ready .0 .1);
+      allowed = omega (arith, m .before .allowed);
+      few = omega (arith, m .before .few, p .few, m .before .ready .0 .1);
       same = gone-on z moved;
     }

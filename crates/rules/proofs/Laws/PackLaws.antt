@@ -5,19 +5,18 @@ use mathlib.Core.Logic.{_≢_}
 use mathlib.Core.Bool.{true, false}
 use mathlib.Core.List.{List}
 use Prim.Native.Nat.{ℕ, _+_, _*_, _-_, _/_, _%_, _^_, _≤_, _<_}
-use native.Mathlib.Nat.{suc-mul, mul-assoc, mul-le-mul-right}
+use native.Mathlib.Nat.{mul-assoc}
 use native.Mathlib.Decide.{decLt}
 use native.Mathlib.Omega.{arith}
 use lib.Arith.{digits-lt, digits-div, digits-mod}
-use lib.ListN.{length, getD, take, drop, length-drop}
-use lib.Seq.{length-take-le, getD-take, getD-drop}
+use lib.ListN.{length, getD}
 use Rattle.algebra.specs.Tables.{tab, count}
 use Rattle.algebra.specs.Words.{Word, bit}
 use Rattle.algebra.specs.Remainder.{isOdd}
-use Rattle.algebra.proofs.TableLaws.{tab-length, tab-at, tab-past, tab-is, total-zero, zero-total, total-some, count-zero, zero-count, count-some}
+use Rattle.algebra.proofs.TableLaws.{tab-length, tab-at, tab-past, total-zero, zero-total, total-some, count-zero, zero-count, count-some}
 use Rattle.rules.specs.Frames.{Frame, row, cell}
-use Rattle.rules.specs.Bits.{rowBytes, stride, squareBytes, bitAt, wordOf, frameOf, byteOf, wordBytes, bytesOf, spareOnes}
-use Rattle.rules.proofs.Laws.Shape.{Square, word-ext, square-ext, bit-past, frameOf-square, frameOf-cell, wordOf-length, wordOf-bit}
+use Rattle.rules.specs.Bits.{rowBytes, stride, squareBytes, bitAt, frameOf, byteOf, wordBytes, bytesOf, spareOnes}
+use Rattle.rules.proofs.Laws.Shape.{Square, square-ext, bit-past, frameOf-square, frameOf-cell}
 use Rattle.rules.proofs.Laws.BitLaws.{bytes-ext, byteOf-lt, byteOf-digit, bitAt-split}
 
 -- entry by entry below k, and so past the end
@@ -61,13 +60,6 @@ wordBytes-bit n w j h =
     let e : 0 * 8 + j ≡ j = omega arith in
     rw e at (bits-of (wordBytes n w) w 0 (rowBytes n) (λ b hb. let z : 0 + b ≡ b = omega arith in rw z (wordBytes-at n w b hb)) j h)
 
-pub word-of-bytes : (n : ℕ) (w : Word) → length w ≡ n → wordOf n (wordBytes n w) 0 ≡ w
-word-of-bytes n w e =
-    word-ext n (wordOf n (wordBytes n w) 0) w (wordOf-length n (wordBytes n w) 0) e
-    (λ j h.
-    let z : 0 + j ≡ j = omega arith in
-    wordOf-bit n (wordBytes n w) 0 j h ∙ ap (bitAt (wordBytes n w)) z ∙ wordBytes-bit n w j (omega arith))
-
 -- ---- a frame
 
 pub bytesOf-length : (n : ℕ) (f : Frame) → length (bytesOf n f) ≡ squareBytes n
@@ -96,17 +88,6 @@ pub frame-of-bytes : (n : ℕ) (f : Frame) → Square n f → frameOf n (bytesOf
 frame-of-bytes n f s =
     square-ext n (frameOf n (bytesOf n f)) f (frameOf-square n (bytesOf n f)) s
     (λ i j hi hj. frameOf-cell n (bytesOf n f) i j hi hj ∙ bytesOf-bit n f i j hi (omega arith))
-
--- a row's part of the bytes is the row as bytes
-pub row-of-bytes : (n : ℕ) (f : Frame) (i : ℕ) → i < n → take (rowBytes n) (drop (i * rowBytes n) (bytesOf n f)) ≡ wordBytes n (row f i)
-unfolding wordBytes
-row-of-bytes n f i h =
-    let r = rowBytes n in
-    let s = bytesOf n f in
-    let fits : i * r + r ≤ n * r = omega (arith, suc-mul i r, mul-le-mul-right r h) in
-    sym (tab-is r (λ b. byteOf (row f i) b) (take r (drop (i * r) s)) 0
-    (length-take-le r (drop (i * r) s) (omega (arith, length-drop (i * r) s, bytesOf-length n f)))
-    (λ b hb. sym (getD-take r (drop (i * r) s) b 0 hb ∙ getD-drop (i * r) s b 0 ∙ bytesOf-at n f i b h hb)))
 
 -- ---- spare bits
 

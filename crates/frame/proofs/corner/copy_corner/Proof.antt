@@ -1,21 +1,18 @@
 -- `frame::corner::copy_corner` meets its contract. The loop's invariant: the first p bytes are those wanted.
 -- Assumes nothing.
-use mathlib.Core.Path.{_≡_, sym, _∙_}
-use Prim.Native.Nat.{_≤_, _-_}
+use Prim.Native.Nat.{_-_}
 use native.Mathlib.Omega.{arith}
-use lib.ListN.{length}
 use borrow.Author.Needs.{needs}
 use Rattle.rules.specs.Bits.{squareBytes, frameOf, bytesOf}
 use Rattle.rules.proofs.Laws.PackLaws.{bytesOf-length}
 use Rattle.laws.specs.Turns.{cornered}
-use Rattle.laws.proofs.CopyLaws.{Agree, agree-none, agree-set, agree-all}
+use Rattle.laws.proofs.CopyLaws.{Agreeing, agreeing-none, agreeing-set, agreeing-all}
 use Rattle.laws.proofs.CornerLaws.{place-small, corner-at}
 use Rattle.frame.proofs.corner.copy_corner.Statement.{statement}
 use Rattle.frame.proofs.corner.copy_corner.Tie as tie
 
 abbrev Inv-loop : tie.InvT-loop
-Inv-loop m n from k to₀ wide p₀ p-end to p =
-    (p-end ≡ squareBytes k) × (length to ≡ squareBytes k) × (p ≤ p-end) × Agree p to (bytesOf k (cornered m k (frameOf n from)))
+Inv-loop m n from k to₀ wide p₀ p-end to p = Agreeing (squareBytes k) p-end p to (bytesOf k (cornered m k (frameOf n from)))
 
 abbrev μ-loop : tie.MeasureT-loop
 μ-loop m n from k to₀ wide p₀ p-end to p = p-end - p
@@ -24,7 +21,7 @@ row-bytes-requires : tie.Need-row-bytes-requires Inv-loop μ-loop
 row-bytes-requires c κs = search needs
 
 loop-holds : tie.Need-loop-holds Inv-loop μ-loop
-loop-holds c = (search needs, search needs, search needs, agree-none _ _)
+loop-holds c = agreeing-none (search needs) (search needs) (bytesOf-length _ _)
 
 div-corner-byte : tie.Need-div-corner-byte Inv-loop μ-loop
 div-corner-byte c = search needs
@@ -55,22 +52,15 @@ loop-again c =
     let a = c .before .before .before .before .before .before .args in
     let l = c .before .before .loop in
     let w = c .before .before .before .row-bytes in
-    let b = c .corner-byte in (
-      search needs,
-      search needs,
-      search needs,
-      agree-set (l .p) (l .to) _ (b .result) (omega arith) (l .inv .1 ∙ sym (bytesOf-length _ _))
-          (corner-at (a .m) (a .n) (a .k) (w .result) (a .from .now) (l .p) (b .result) (w .ensures) (omega arith) (omega arith)
-          (omega arith) (omega arith) (b .ensures))
-          (l .inv .3),
-    )
+    agreeing-set (l .inv) (c .before .loop-test .taken)
+    (corner-at (a .m) (a .n) (a .k) (w .result) (a .from .now) (l .p) _ (w .ensures) (omega arith) (omega arith)
+    (omega arith) (omega arith) (c .corner-byte .ensures))
 
 same-length : tie.Need-same-length Inv-loop μ-loop
 same-length c = search needs
 
 returns : tie.Need-returns Inv-loop μ-loop
-returns c =
-    let l = c .before .loop in agree-all (l .p) (l .to) _ (omega arith) (l .inv .1 ∙ sym (bytesOf-length _ _)) (l .inv .3)
+returns c = agreeing-all (c .before .loop .inv) (c .loop-test .left)
 
 pub copy-corner-spec : {M : Type 1} → statement M
 copy-corner-spec =

@@ -1,20 +1,20 @@
 -- `frame::corner::is_packed` meets its contract. The loop's invariant: the first p bytes are what their rows' own bits make them.
 -- Assumes nothing.
 use mathlib.Core.Path.{_≡_, sym, _∙_}
-use Prim.Native.Nat.{_≤_, _-_}
+use Prim.Native.Nat.{_-_}
 use native.Mathlib.Omega.{arith}
-use lib.ListN.{length, getD}
+use lib.ListN.{getD}
 use borrow.Author.Needs.{needs}
-use Rattle.rules.specs.Bits.{frameOf, bytesOf}
+use Rattle.rules.specs.Bits.{squareBytes, frameOf, bytesOf}
 use Rattle.rules.proofs.Laws.PackLaws.{bytesOf-length}
 use Rattle.laws.specs.Turns.{cornered}
-use Rattle.laws.proofs.CopyLaws.{Agree, agree-none, agree-more}
+use Rattle.laws.proofs.CopyLaws.{Agreeing, agreeing-none, agreeing-more, agreeing-all}
 use Rattle.laws.proofs.CornerLaws.{place-small, corner-at, packed-yes, packed-no}
 use Rattle.frame.proofs.corner.is_packed.Statement.{statement}
 use Rattle.frame.proofs.corner.is_packed.Tie as tie
 
 abbrev Inv-loop : tie.InvT-loop
-Inv-loop n s wide p₀ p-end p = (p-end ≡ length s) × (p ≤ p-end) × Agree p s (bytesOf n (cornered n n (frameOf n s)))
+Inv-loop n s wide p₀ p-end p = Agreeing (squareBytes n) p-end p s (bytesOf n (cornered n n (frameOf n s)))
 
 abbrev μ-loop : tie.MeasureT-loop
 μ-loop n s wide p₀ p-end p = p-end - p
@@ -23,7 +23,7 @@ row-bytes-requires : tie.Need-row-bytes-requires Inv-loop μ-loop
 row-bytes-requires c κs = search needs
 
 loop-holds : tie.Need-loop-holds Inv-loop μ-loop
-loop-holds c = (search needs, search needs, agree-none _ _)
+loop-holds c = agreeing-none (search needs) (search needs) (bytesOf-length _ _)
 
 div-corner-byte : tie.Need-div-corner-byte Inv-loop μ-loop
 div-corner-byte c = search needs
@@ -70,18 +70,10 @@ loop-less c = search needs
 loop-again : tie.Need-loop-again Inv-loop μ-loop
 loop-again c =
     let b = c .before .before in
-    let a = b .before .before .before .before .before .args in
-    let l = b .before .before .loop in (
-      search needs,
-      search needs,
-      agree-more (l .p) (a .s .now) _ (omega arith) (b .before .before .before .before .before .pre .2 ∙ sym (bytesOf-length _ _))
-          (sym (byte-is b) ∙ c .if1 .left) (l .inv .2),
-    )
+    agreeing-more (b .before .before .loop .inv) (b .before .loop-test .taken) (sym (byte-is b) ∙ c .if1 .left)
 
 returns-2 : tie.Need-returns-2 Inv-loop μ-loop
-returns-2 c =
-    let a = c .before .before .before .before .args in
-    packed-yes (a .n) (a .s .now) (c .before .loop .p) (omega arith) (omega arith) (c .before .loop .inv .2)
+returns-2 c = packed-yes _ _ (agreeing-all (c .before .loop .inv) (c .loop-test .left))
 
 pub is-packed-spec : {M : Type 1} → statement M
 is-packed-spec =

@@ -1,21 +1,25 @@
 -- `decode::repair` meets its contract. The outer loop: the passes left to make give the whole outcome. The inner loop: the first `k`
 -- words of this pass are mended.
 -- Assumes nothing.
-use mathlib.Core.Path.{sym, _∙_}
+use mathlib.Core.Path.{_≡_, refl, sym, _∙_}
 use Prim.Native.Nat.{_-_}
+use lib.ListN.{length}
 use borrow.Author.Needs.{needs}
 use Rattle.rules.specs.Bits.{frameOf}
 use Rattle.rules.proofs.Laws.Shape.{frameOf-square}
+use Rattle.laws.specs.Turns.{Whole}
 use Rattle.laws.proofs.PassStepLaws.{
   Passing,
   passing-whole,
   passing-none,
   passing-more,
+  passing-all,
   Repairing,
   repairing-none,
   repairing-more,
   frame-torn,
   ended-clean,
+  Made,
   ended-repaired,
   ended-stuck,
   ended-spent,
@@ -38,6 +42,40 @@ Inv-loop n allowance s₀ rows₀ columns₀ passes₀ flips₀ s rows columns p
 abbrev μ-loop : tie.MeasureT-loop
 μ-loop n allowance s₀ rows₀ columns₀ passes₀ flips₀ s rows columns passes flips = allowance - passes
 
+-- ---- what is known on the way
+
+abbrev entry : tie.At-loop2 Inv-loop2 μ-loop2 Inv-loop μ-loop → tie.Start Inv-loop2 μ-loop2 Inv-loop μ-loop
+entry c = c .before .before .before .before .before .before .before .before
+
+-- in the midst of a pass
+whole : (c : tie.At-loop2 Inv-loop2 μ-loop2 Inv-loop μ-loop) → Whole (entry c .args .n) (c .loop2 .s)
+whole c = passing-whole (c .before .loop .inv) (c .loop2 .inv)
+
+-- the end of a pass, the bad words counted
+abbrev pass-end : tie.After-bad4 Inv-loop2 μ-loop2 Inv-loop μ-loop → tie.After-loop2 Inv-loop2 μ-loop2 Inv-loop μ-loop
+pass-end c = c .before .before .before .before
+
+kept : (c : tie.After-bad4 Inv-loop2 μ-loop2 Inv-loop μ-loop) → let p = pass-end c .before in length (p .loop2 .s) ≡ length (entry p .args .s .now)
+kept c = let p = pass-end c .before in whole p .2 ∙ sym (entry p .pre .0 .0 .2)
+
+-- an `abbrev`, so that each need sees the direction the code took, and shows by `refl` that it is the rule's
+abbrev made :
+    (c : tie.After-bad4 Inv-loop2 μ-loop2 Inv-loop μ-loop)
+    → let p = pass-end c .before in
+    let l = p .before .loop in
+    let a = entry p .args in
+    Made (a .n) (a .allowance) (frameOf (a .n) (a .s .now)) (l .s) (l .passes) (l .flips) (p .loop2 .s) (p .loop2 .changes)
+    (c .before .before .bad3 .result) (c .bad4 .result)
+made c = let e = pass-end c in record {
+  before = e .before .before .loop .inv;
+  by-columns = _;
+  mended = passing-all (e .before .loop2 .inv) (e .loop2-test .left);
+  rows-bad = c .before .before .bad3 .ensures .0;
+  columns-bad = c .bad4 .ensures .0;
+}
+
+-- ---- the needs
+
 bad-requires : tie.Need-bad-requires Inv-loop2 μ-loop2 Inv-loop μ-loop
 bad-requires c κs = search needs
 
@@ -55,21 +93,22 @@ same-length c = search needs
 
 returns : tie.Need-returns Inv-loop2 μ-loop2 Inv-loop μ-loop
 returns c =
-    let q = c .before .before .before .before .before .before .before in
-    let d = reported _ _ _ (q .args .s .now) _ _ _ _ _
-    (ended-clean _ _ (q .args .s .now) _ _ (q .pre .0) (c .before .before .before .before .bad .ensures .0) (c .before .before .bad2 .ensures .0) (c .before .if1 .taken)) in
+    let b = c .before .before in
+    let q = b .before .before .before .before .before in
+    let d = reported (ended-clean _ _ (q .args .s .now) _ _ (q .pre .0) (b .before .before .bad .ensures .0) (b .bad2 .ensures .0) (c .before .if1 .taken)) in
     (c .only .ensures ∙ d .0, d .1)
 
 loop-holds : tie.Need-loop-holds Inv-loop2 μ-loop2 Inv-loop μ-loop
 loop-holds c =
-    let q = c .before .before .before .before .before .before in
-    repairing-none _ _ _ (q .pre .0) (q .pre .1) (frame-torn _ _ _ _ (c .before .before .before .bad .ensures .0) (c .before .bad2 .ensures .0) (c .if1 .left))
+    let b = c .before in
+    let q = b .before .before .before .before .before in
+    repairing-none _ _ _ (q .pre .0) (q .pre .1) (frame-torn _ _ _ _ (b .before .before .bad .ensures .0) (b .bad2 .ensures .0) (c .if1 .left))
 
 loop2-holds : tie.Need-loop2-holds Inv-loop2 μ-loop2 Inv-loop μ-loop
 loop2-holds c = passing-none _ _ _ (c .loop .inv .ready)
 
 mend-word-requires : tie.Need-mend-word-requires Inv-loop2 μ-loop2 Inv-loop μ-loop
-mend-word-requires c κs = (let p = c .before .before in passing-whole _ _ _ _ _ _ _ _ _ _ (p .before .loop .inv) (p .loop2 .inv), search needs)
+mend-word-requires c κs = (whole (c .before .before), search needs)
 
 add-changes : tie.Need-add-changes Inv-loop2 μ-loop2 Inv-loop μ-loop
 add-changes c = search needs
@@ -82,10 +121,9 @@ loop2-less c = search needs
 
 loop2-again : tie.Need-loop2-again Inv-loop2 μ-loop2 Inv-loop μ-loop
 loop2-again c =
-    let p = c .before .before .before .before .before in
+    let e = c .before .before .before .before in
     let m = c .before .before .mend-word .ensures in
-    passing-more _ _ _ (p .loop2 .s) _ _ _ _ (frameOf-square _ _) (passing-whole _ _ _ _ _ _ _ _ _ _ (p .before .loop .inv) (p .loop2 .inv))
-    (c .before .before .before .before .loop2-test .taken) (p .loop2 .inv) (m .0 .0) (m .0 .1) (m .1)
+    passing-more (e .before .loop2 .inv) (frameOf-square _ _) (whole (e .before)) (e .loop2-test .taken) (m .0 .0) (m .0 .1) (m .1)
 
 add-passes : tie.Need-add-passes Inv-loop2 μ-loop2 Inv-loop μ-loop
 add-passes c = search needs
@@ -94,10 +132,10 @@ add-flips : tie.Need-add-flips Inv-loop2 μ-loop2 Inv-loop μ-loop
 add-flips c = search needs
 
 bad-requires-3 : tie.Need-bad-requires-3 Inv-loop2 μ-loop2 Inv-loop μ-loop
-bad-requires-3 c κs = let p = c .before .before in passing-whole _ _ _ _ _ _ _ _ _ _ (p .before .loop .inv) (p .loop2 .inv)
+bad-requires-3 c κs = whole (c .before .before)
 
 bad-requires-4 : tie.Need-bad-requires-4 Inv-loop2 μ-loop2 Inv-loop μ-loop
-bad-requires-4 c κs = let p = c .before .before .before .before in passing-whole _ _ _ _ _ _ _ _ _ _ (p .before .loop .inv) (p .loop2 .inv)
+bad-requires-4 c κs = whole (c .before .before .before .before)
 
 add-if2 : tie.Need-add-if2 Inv-loop2 μ-loop2 Inv-loop μ-loop
 add-if2 c = search needs
@@ -110,59 +148,31 @@ loop-less c = search needs
 
 loop-again : tie.Need-loop-again Inv-loop2 μ-loop2 Inv-loop μ-loop
 loop-again c =
-    let y = c .before .before .before .before in
-    let b = y .before .before in
-    let e = b .before .before in
-    let p = e .before in
-    repairing-more _ _ _ _ _ _ (p .before .loop .inv) _ _ _ (p .loop2 .inv) (e .loop2-test .left) _ _
-    (b .bad3 .ensures .0) (y .bad4 .ensures .0) (c .before .before .before .if2 .left)
-    (sym (c .before .before .is-stuck .ensures) ∙ c .before .if3 .left) (c .if4 .left)
+    let d = c .before .before in
+    repairing-more (made (d .before .before)) refl (d .before .if2 .left) (sym (d .is-stuck .ensures) ∙ c .before .if3 .left) (c .if4 .left)
 
 same-length-2 : tie.Need-same-length-2 Inv-loop2 μ-loop2 Inv-loop μ-loop
-same-length-2 c =
-    let p = c .before .before .before .before .before .before in
-    passing-whole _ _ _ _ _ _ _ _ _ _ (p .before .loop .inv) (p .loop2 .inv) .2 ∙ sym (p .before .before .before .before .before .before .before .before .pre .0 .0 .2)
+same-length-2 c = kept (c .before)
 
 returns-2 : tie.Need-returns-2 Inv-loop2 μ-loop2 Inv-loop μ-loop
-returns-2 c =
-    let y = c .before in
-    let b = y .before .before in
-    let e = b .before .before in
-    let p = e .before in
-    reported _ _ _ _ _ _ _ _ _
-    (ended-repaired _ _ _ _ _ _ (p .before .loop .inv) _ _ _ (p .loop2 .inv) (e .loop2-test .left) _ _
-    (b .bad3 .ensures .0) (y .bad4 .ensures .0) (c .if2 .taken))
+returns-2 c = reported (ended-repaired (made (c .before)) refl (c .if2 .taken))
 
 same-length-3 : tie.Need-same-length-3 Inv-loop2 μ-loop2 Inv-loop μ-loop
-same-length-3 c =
-    let p = c .before .before .before .before .before .before .before .before in
-    passing-whole _ _ _ _ _ _ _ _ _ _ (p .before .loop .inv) (p .loop2 .inv) .2 ∙ sym (p .before .before .before .before .before .before .before .before .pre .0 .0 .2)
+same-length-3 c = kept (c .before .before .before)
 
 returns-3 : tie.Need-returns-3 Inv-loop2 μ-loop2 Inv-loop μ-loop
 returns-3 c =
-    let y = c .before .before .before in
-    let b = y .before .before in
-    let e = b .before .before in
-    let p = e .before in
-    reported _ _ _ _ _ _ _ _ _
-    (ended-stuck _ _ _ _ _ _ (p .before .loop .inv) _ _ _ (p .loop2 .inv) (e .loop2-test .left) _ _
-    (b .bad3 .ensures .0) (y .bad4 .ensures .0) (c .before .before .if2 .left) (sym (c .before .is-stuck .ensures) ∙ c .if3 .taken))
+    let d = c .before in
+    reported (ended-stuck (made (d .before .before)) refl (d .before .if2 .left) (sym (d .is-stuck .ensures) ∙ c .if3 .taken))
 
 same-length-4 : tie.Need-same-length-4 Inv-loop2 μ-loop2 Inv-loop μ-loop
-same-length-4 c =
-    let p = c .before .before .before .before .before .before .before .before .before in
-    passing-whole _ _ _ _ _ _ _ _ _ _ (p .before .loop .inv) (p .loop2 .inv) .2 ∙ sym (p .before .before .before .before .before .before .before .before .pre .0 .0 .2)
+same-length-4 c = kept (c .before .before .before .before)
 
 returns-4 : tie.Need-returns-4 Inv-loop2 μ-loop2 Inv-loop μ-loop
 returns-4 c =
-    let y = c .before .before .before .before in
-    let b = y .before .before in
-    let e = b .before .before in
-    let p = e .before in
-    reported _ _ _ _ _ _ _ _ _
-    (ended-spent _ _ _ _ _ _ (p .before .loop .inv) _ _ _ (p .loop2 .inv) (e .loop2-test .left) _ _
-    (b .bad3 .ensures .0) (y .bad4 .ensures .0) (c .before .before .before .if2 .left)
-    (sym (c .before .before .is-stuck .ensures) ∙ c .before .if3 .left) (c .if4 .taken))
+    let d = c .before .before in
+    reported
+    (ended-spent (made (d .before .before)) refl (d .before .if2 .left) (sym (d .is-stuck .ensures) ∙ c .before .if3 .left) (c .if4 .taken))
 
 pub repair-spec : {M : Type 1} → statement M
 repair-spec =
