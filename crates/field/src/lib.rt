@@ -7,6 +7,7 @@ pub use powers::power;
 ghost use mathlib.Core.Path.{_≡_};
 ghost use Rattle.rules.specs.Field.{product};
 
+// The product of two elements: their logarithms add, and 0 has none.
 pub fn product(x: u8, y: u8) -> u8
     ensures { λ r. ⌜ r ≡ product x y ⌝ }
 {

@@ -4,7 +4,7 @@ ghost use Prim.Native.Nat.{_+_, _*_, _<_, _≤_};
 ghost use lib.ListN.{length};
 ghost use Rattle.algebra.specs.Tables.{num};
 ghost use Rattle.rules.specs.Bits.{bitAt, wordOf, byteOf};
-ghost use Rattle.laws.specs.InPlace.{flipAt};
+ghost use Rattle.laws.specs.InPlace.{longest, flipAt};
 
 // Bit x, 0 or 1.
 pub(crate) fn bit(s: &[u8], x: usize) -> u32
@@ -14,6 +14,7 @@ pub(crate) fn bit(s: &[u8], x: usize) -> u32
     ((s[x / 8] >> (7 - x % 8)) & 1) as u32
 }
 
+// Bit x negated.
 pub(crate) fn flip(s: &mut [u8], x: usize)
     requires { ⌜ x < length (now s) * 8 ⌝ }
     ensures { λ _. ⌜ now (s .exit) ≡ flipAt (now (s .entry)) x ⌝ }
@@ -23,7 +24,7 @@ pub(crate) fn flip(s: &mut [u8], x: usize)
 
 // Byte b of the word of m bits that starts at byte `at`: what lies past the word's end is zero.
 pub fn word_byte(m: usize, s: &[u8], at: usize, b: usize) -> u8
-    requires { ⌜ (m ≤ 256) × (at ≤ 8192) × (b ≤ 256) × (b * 8 < m → at + b < length (now s)) ⌝ }
+    requires { ⌜ (m ≤ 256) × (at ≤ longest) × (b ≤ 256) × (b * 8 < m → at + b < length (now s)) ⌝ }
     ensures { λ r. ⌜ r ≡ byteOf (wordOf m (now (s .entry)) (at * 8)) b ⌝ }
 {
     if m <= b * 8 {
