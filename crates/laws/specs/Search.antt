@@ -14,7 +14,7 @@ pub record NoSingle (n s1 s3 : ℕ) : Type 0 where
   pub no-last : s1 ≡ 0 → s3 ≢ 0
   pub no-front : (e : ℕ) → e + 2 ≤ n → One s1 s3 e → ⊥
 
--- p is the place that alone gives the two sums; one past the word where there is none
+-- p is the place that alone gives the two sums; past the word, at n or beyond, where there is none
 pub record Single (n s1 s3 p : ℕ) : Type 0 where
   pub last : p + 1 ≡ n → (s1 ≡ 0) × (s3 ≡ 0)
   pub front : p + 2 ≤ n → One s1 s3 (n - 2 - p)
@@ -32,7 +32,7 @@ Alone n s1 s3 p = (f : ℕ) → f < n - 2 - p → Two s1 s3 (n - 2 - p) f → �
 unfoldable pub AllAlone : ℕ → ℕ → ℕ → ℕ → Type 0
 AllAlone n s1 s3 k = (p : ℕ) → p < k → Alone n s1 s3 p
 
--- q is the place that gives the two sums with p; one past the word where there is none
+-- q is the place that gives the two sums with p; past the word, at n or beyond, where there is none
 pub record Partner (n s1 s3 p q : ℕ) : Type 0 where
   pub found : q < n → (p < q) × (q + 2 ≤ n) × Two s1 s3 (n - 2 - p) (n - 2 - q)
   pub alone : n ≤ q → Alone n s1 s3 p

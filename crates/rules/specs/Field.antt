@@ -38,7 +38,7 @@ exponent (suc left) e x = elim (eqb (power e) x) [ true ↦ e | false ↦ expone
 unfoldable pub logarithm : ℕ → ℕ
 logarithm x = exponent 255 0 x
 
--- the product with the sum of the a^i at y's ones
+-- x times y: y is the sum of the a^i at its ones, so the product is the sum of x a^i at them
 unfoldable pub product : ℕ → ℕ → ℕ
 product x y = lin (tab 8 (λ i. iter i timesA x)) y
 
