@@ -5,7 +5,7 @@ use mathlib.Core.Logic.{_≢_}
 use mathlib.Core.Bool.{Bool, true, false}
 use mathlib.Core.List.{List, [], _∷_}
 use Prim.Native.Nat.{ℕ, zero, suc, _+_, _*_, _≤_, _<_}
-use native.Mathlib.Nat.{mul-zero, mul-add, not-suc-le-zero, le-of-suc-le-suc}
+use native.Mathlib.Nat.{mul-zero, mul-add, mul-suc, not-suc-le-zero, le-of-suc-le-suc}
 use native.Mathlib.Decide.{ℕ-discrete}
 use native.Mathlib.Omega.{arith}
 use lib.ListN.{length, getD, List·getD-eq-default}
@@ -90,6 +90,19 @@ total-mono c (suc n) f g h =
     ap (λ m. c * m) (total-suc n f) ∙ mul-add c (f 0) (total n (λ i. f (suc i))) in
     omega (arith, total-suc n g)
 
+-- no term is more than c
+pub total-most : (c n : ℕ) (f : ℕ → ℕ) → ((i : ℕ) → i < n → f i ≤ c) → total n f ≤ c * n
+total-most c zero f h = omega (arith, total-none f)
+total-most c (suc n) f h =
+    omega (arith, total-last n f, mul-suc c n, total-most c n f (λ i l. h i (omega arith)), h n (omega arith))
+
+pub count-most : (n : ℕ) (p : ℕ → Bool) → count n p ≤ n
+count-most n p = let m = total-most 1 n (λ i. num (p i)) (λ i l. one (p i)) in omega (arith, count-total n p)
+  where
+    one : (b : Bool) → num b ≤ 1
+    one true = omega arith
+    one false = omega arith
+
 -- term by term against two sums
 pub total-add : (n : ℕ) (f g h : ℕ → ℕ) → ((i : ℕ) → i < n → f i ≤ g i + h i) → total n f ≤ total n g + total n h
 total-add zero f g h q = omega (arith, total-none f)
@@ -154,3 +167,21 @@ count-some n p h =
     go : (b : Bool) → num b ≢ 0 → b ≡ true
     go true k = refl
     go false k = absurd (k refl)
+
+pub total-ext : (n : ℕ) (f g : ℕ → ℕ) → ((i : ℕ) → i < n → f i ≡ g i) → total n f ≡ total n g
+total-ext n f g h = ap sum (tab-ext n f g h)
+
+total-plus : (n : ℕ) (f g : ℕ → ℕ) → total n (λ i. f i + g i) ≡ total n f + total n g
+total-plus zero f g = omega (arith, total-none (λ i. f i + g i), total-none f, total-none g)
+total-plus (suc n) f g =
+    omega (arith, total-last n (λ i. f i + g i), total-last n f, total-last n g, total-plus n f g)
+
+-- a sum of sums, turned over
+pub total-swap : (n m : ℕ) (c : ℕ → ℕ → ℕ) → total n (λ i. total m (λ j. c i j)) ≡ total m (λ j. total n (λ i. c i j))
+total-swap zero m c =
+    total-none (λ i. total m (λ j. c i j)) ∙ sym (zero-total m (λ j. total 0 (λ i. c i j)) (λ j h. total-none (λ i. c i j)))
+total-swap (suc n) m c =
+    total-last n (λ i. total m (λ j. c i j))
+    ∙ ap (λ x. x + total m (λ j. c n j)) (total-swap n m c)
+    ∙ sym (total-plus m (λ j. total n (λ i. c i j)) (λ j. c n j))
+    ∙ total-ext m (λ j. total n (λ i. c i j) + c n j) (λ j. total (suc n) (λ i. c i j)) (λ j h. sym (total-last n (λ i. c i j)))

@@ -23,7 +23,9 @@ use Rattle.rules.proofs.Laws.PassLaws.{decoded-clean, decoded-passes, step-repa
 use Rattle.laws.specs.InPlace.{wordAt, put, Inside}
 use Rattle.laws.specs.Turns.{turned, startOf, stepOf, worked, Whole, Ready}
 use Rattle.laws.proofs.TurnLaws.{frame-counted, turned-square, word-inside, word-there, worked-none, worked-later, worked-square, put-worked}
-use Rattle.laws.proofs.PassLoopLaws.{flipsOf, mend-flips, mend-keeps, pass-worked, pass-flips}
+use Rattle.rules.proofs.Laws.FlipLaws.{flipsOf}
+use Rattle.rules.proofs.Promises.Packing.{mend-flips}
+use Rattle.laws.proofs.PassLoopLaws.{mend-keeps, pass-worked, pass-flips}
 
 -- ---- words that are not codewords, counted
 

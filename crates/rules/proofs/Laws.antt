@@ -15,6 +15,7 @@ pub mod EncodeWordLaws
 pub mod FrameLaws
 pub mod ProductLaws
 pub mod PassLaws
+pub mod FlipLaws
 pub mod TwoPasses
 -- Numbers
 pub mod OneOfLaws

@@ -11,6 +11,7 @@ pub mod EntryRules
 pub mod Entries
 pub mod Determined
 pub mod Refusals
+pub mod Packing
 -- Demand 3, and where it ends
 pub mod RepairFrames
 pub mod Repair

@@ -5,4 +5,5 @@ pub mod Frames
 pub mod Bits
 pub mod Passes
 pub mod Numbers
+pub mod Packed
 pub mod Damage
