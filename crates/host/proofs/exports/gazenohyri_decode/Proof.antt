@@ -1,0 +1,31 @@
+-- `exports::gazenohyri_decode` meets its contract: what decode says has room, whatever the arguments.
+-- Assumes nothing.
+use borrow.Author.Needs.{needs}
+use Rattle.rules.specs.Numbers.{decodeSaid}
+use Rattle.rules.proofs.Promises.Packing.{packs}
+use Rattle.host.proofs.PackLaws.{fits-said, packed-said}
+use Rattle.host.proofs.exports.gazenohyri_decode.Statement.{statement}
+use Rattle.host.proofs.exports.gazenohyri_decode.Tie as tie
+
+decode-requires : tie.Need-decode-requires
+decode-requires c κs = search needs
+
+pack-report-requires : tie.Need-pack-report-requires
+pack-report-requires c κs =
+    let a = c .before .before .before .before .before .before .args in
+    fits-said (decodeSaid (a .n) (a .allowance) (a .received .now) (a .frame .now)) _ (c .before .before .decode .ensures .0)
+    (packs .fits (a .n) (a .allowance) (a .received .now) (a .frame .now))
+
+same-length : tie.Need-same-length
+same-length c = search needs
+
+returns : tie.Need-returns
+returns c =
+    let a = c .before .before .before .before .before .before .before .args in
+    let d = c .before .before .before .decode .ensures in (
+      packed-said (decodeSaid (a .n) (a .allowance) (a .received .now) (a .frame .now)) _ _ (d .0) (c .pack-report .ensures),
+      d .1,
+    )
+
+pub gazenohyri-decode-spec : {M : Type 1} → statement M
+gazenohyri-decode-spec = tie.close (tie.spec decode-requires pack-report-requires same-length returns)

@@ -1,0 +1,2 @@
+-- What the exported functions owe.
+pub mod Calls
