@@ -1,0 +1,2 @@
+-- Laws of the tests' exports
+pub mod ProbeLaws

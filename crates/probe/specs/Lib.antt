@@ -1,0 +1,2 @@
+-- What the tests' exports owe.
+pub mod Calls
