@@ -1,0 +1,122 @@
+//! Encoding data and reading it back.
+
+use crate::bits::{
+    clear_spare_bits, has_spare_bits, row_mut, square_bytes, wrong_bits, CHECK_BITS,
+};
+use crate::block::Block;
+use crate::case::{Case, Entry};
+use crate::damage;
+use crate::promise::Promise;
+use crate::written::{self, frame_of, Written};
+
+fn encode_case(block: &mut Block, data: Vec<u8>) -> Case {
+    let bytes = square_bytes(block.n);
+    Case::new(&mut block.random, Entry::Encode, block.n, data, bytes)
+}
+
+fn read_case(block: &mut Block, frame: Vec<u8>) -> Case {
+    let bytes = square_bytes(block.n - CHECK_BITS);
+    Case::new(&mut block.random, Entry::Read, block.n, frame, bytes)
+}
+
+/// The first frame of each n is empty, the second full.
+fn some_frame(block: &mut Block, index: usize) -> Written {
+    let k = block.n - CHECK_BITS;
+    let mut data = match index {
+        0 => vec![0; square_bytes(k)],
+        1 => vec![0xff; square_bytes(k)],
+        _ => written::data(&mut block.random, block.n),
+    };
+    clear_spare_bits(k, &mut data);
+    frame_of(block.code, block.n, data)
+}
+
+/// Encodes data and reads the frame: both sides must give the same frame, and from it the data.
+pub fn encode(block: &mut Block) {
+    for index in 0..block.count {
+        let written = some_frame(block, index);
+        let case = encode_case(block, written.data.clone());
+        block.check(case, Promise::Exactly(0, written.frame.clone()), &[]);
+        let case = read_case(block, written.frame.clone());
+        block.check(case, Promise::Exactly(0, written.data), &written.frame);
+    }
+}
+
+/// Where k is a multiple of eight there are no spare bits, and the data is good.
+pub fn encode_spare_bits(block: &mut Block) {
+    let k = block.n - CHECK_BITS;
+    for index in 0..block.count {
+        let Written { mut data, frame } = some_frame(block, index);
+        let i = block.random.below(k);
+        if block.random.once_in(2) {
+            damage::set_spare_bits(&mut block.random, k, row_mut(k, &mut data, i));
+        } else {
+            damage::set_spare_bits(&mut block.random, k, &mut data);
+        }
+        let refused = has_spare_bits(k, &data);
+        let case = encode_case(block, data);
+        let promise = if refused {
+            Promise::refused(5, &case)
+        } else {
+            Promise::Exactly(0, frame)
+        };
+        block.check(case, promise, &[]);
+    }
+}
+
+pub fn read_spare_bits(block: &mut Block) {
+    for index in 0..block.count {
+        let written = some_frame(block, index);
+        let mut frame = written.frame.clone();
+        damage::set_spare_bits(&mut block.random, block.n, &mut frame);
+        let case = read_case(block, frame);
+        block.check(case, Promise::Exactly(0, written.data), &written.frame);
+    }
+}
+
+pub fn read_damaged(block: &mut Block) {
+    for index in 0..block.count {
+        let written = some_frame(block, index).frame;
+        let mut frame = written.clone();
+        spoil(block, &mut frame);
+        if block.random.once_in(4) {
+            damage::set_spare_bits(&mut block.random, block.n, &mut frame);
+        }
+        // Different frames differ in six rows or more, and in each of these in six bits or more.
+        let wrong = wrong_bits(block.n, &written, &frame);
+        let rows = wrong.iter().filter(|&&count| count > 0).count();
+        let total: usize = wrong.iter().sum();
+        let case = read_case(block, frame);
+        let promise = if total > 0 && (rows < 6 || total < 36) {
+            Promise::refused(6, &case)
+        } else {
+            Promise::None
+        };
+        block.check(case, promise, &written);
+    }
+}
+
+/// Damage that leaves every row a codeword, or nearly every column, and other damage.
+fn spoil(block: &mut Block, frame: &mut [u8]) {
+    let (n, random) = (block.n, &mut block.random);
+    match random.below(6) {
+        0 => {
+            let other = written::codeword(block.code, random, n);
+            row_mut(n, frame, random.below(n)).copy_from_slice(&other);
+        }
+        1 => {
+            let (j, loss) = (random.below(n), damage::loss(random));
+            damage::lose_column(random, n, frame, j, loss);
+        }
+        2 => {
+            let other = written::frame(block.code, random, n).frame;
+            damage::mix_rows(random, n, frame, &other);
+        }
+        3 => damage::tear(random, n, frame),
+        4 => damage::wrong_bits(random, n, frame, 1),
+        _ => {
+            let count = random.within(2, 40);
+            damage::wrong_bits(random, n, frame, count);
+        }
+    }
+}

@@ -1,0 +1,232 @@
+//! All kinds of checks, and how many cases each has.
+
+use crate::bits::{LONGEST, SHORTEST};
+use crate::block::{Block, Kind};
+use crate::tally::Seen::{self, *};
+use crate::{data, frames, items, refusals, rows, words};
+
+const LENGTHS: usize = LONGEST - SHORTEST + 1;
+
+/// A kind that has `count` cases for every n.
+fn kind(name: &'static str, count: usize, must_see: &'static [Seen], make: fn(&mut Block)) -> Kind {
+    Kind {
+        name,
+        count,
+        least: (count * LENGTHS) as u64,
+        lengths: SHORTEST..=LONGEST,
+        must_see,
+        make,
+    }
+}
+
+/// A kind that makes as many cases as there are.
+fn whole(name: &'static str, least: u64, must_see: &'static [Seen], make: fn(&mut Block)) -> Kind {
+    Kind {
+        least,
+        ..kind(name, 0, must_see, make)
+    }
+}
+
+pub fn all() -> Vec<Kind> {
+    let mut kinds = settled_word_kinds();
+    kinds.extend(word_kinds());
+    kinds.extend(data_kinds());
+    kinds.extend(frame_kinds());
+    kinds.extend(made_frame_kinds());
+    kinds.extend(refusal_kinds());
+    kinds.push(Kind {
+        lengths: 18..=18,
+        ..whole("bench items of document 01", 23, &[], items::items)
+    });
+    kinds
+}
+
+const FOUR: &[Seen] = &[Codeword, OnePlace, TwoPlaces, Beyond];
+
+/// Words whose answer document 01 settles.
+fn settled_word_kinds() -> Vec<Kind> {
+    vec![
+        Kind {
+            lengths: 18..=18,
+            ..whole(
+                "words, all 2^18 words at n = 18",
+                1 << 18,
+                FOUR,
+                words::all_at_18,
+            )
+        },
+        whole(
+            "words, every one and two wrong places",
+            2_828_087,
+            &[OnePlace, TwoPlaces],
+            words::every_place,
+        ),
+        Kind {
+            lengths: 18..=255,
+            least: 400 * 238,
+            ..kind(
+                "words, wrong bits at places cut away",
+                400,
+                &[Beyond],
+                words::cut_away,
+            )
+        },
+    ]
+}
+
+fn word_kinds() -> Vec<Kind> {
+    vec![
+        kind(
+            "words, none to five wrong bits",
+            2400,
+            FOUR,
+            words::up_to_five,
+        ),
+        kind(
+            "words, random bytes and ones",
+            1200,
+            &[TwoPlaces, Beyond],
+            words::random,
+        ),
+        kind("words, spare bits set", 400, FOUR, words::spare_bits),
+    ]
+}
+
+fn data_kinds() -> Vec<Kind> {
+    vec![
+        kind("data encoded and read", 40, &[Encoded, Read], data::encode),
+        kind(
+            "data with spare bits set",
+            20,
+            &[Encoded, Number5],
+            data::encode_spare_bits,
+        ),
+        kind(
+            "reading frames with spare bits set",
+            20,
+            &[Read],
+            data::read_spare_bits,
+        ),
+        kind("reading damaged frames", 60, &[Number6], data::read_damaged),
+        whole(
+            "rows, every row of a frame",
+            32_743,
+            &[Row],
+            rows::every_row,
+        ),
+    ]
+}
+
+/// Damage as flash and cable do it.
+fn frame_kinds() -> Vec<Kind> {
+    const BOTH: &[Seen] = &[Repaired, Stuck, Spent];
+    vec![
+        kind("frames, clean", 16, &[Clean], frames::clean),
+        kind(
+            "frames, one wrong bit",
+            24,
+            &[RepairedInOne],
+            frames::one_bit,
+        ),
+        kind("frames, a few wrong bits", 48, BOTH, frames::few_bits),
+        kind("frames, whole rows", 40, BOTH, frames::whole_rows),
+        kind("frames, whole columns", 40, BOTH, frames::whole_columns),
+        kind(
+            "frames, crossings of rows and columns",
+            48,
+            BOTH,
+            frames::crossings,
+        ),
+        kind("frames, torn", 40, BOTH, frames::torn),
+        kind("frames, bursts", 32, BOTH, frames::bursts),
+        kind("frames, noise", 24, BOTH, frames::noise),
+        kind(
+            "frames, random bytes",
+            16,
+            &[Stuck, Spent],
+            frames::random_bytes,
+        ),
+        kind(
+            "frames, spare bits set",
+            24,
+            &[Clean, Repaired],
+            frames::spare_bits,
+        ),
+    ]
+}
+
+/// Damage made to lead the decoder somewhere.
+fn made_frame_kinds() -> Vec<Kind> {
+    vec![
+        kind(
+            "frames, within the class",
+            48,
+            &[Clean, RepairedInOne, RepairedInTwo],
+            frames::within_class,
+        ),
+        kind(
+            "frames, rows that are other codewords",
+            40,
+            &[RepairedInTwo, Stuck, Spent],
+            frames::other_codewords,
+        ),
+        kind(
+            "frames, rows of another frame",
+            32,
+            &[Clean, Repaired, Stuck, Spent],
+            frames::rows_of_another,
+        ),
+        kind(
+            "frames, chains that take many passes",
+            32,
+            &[RepairedLate, StuckLate, Spent],
+            frames::chains,
+        ),
+        Kind {
+            lengths: 31..=256,
+            least: 8 * 226,
+            ..kind(
+                "frames, sixteen bits of another frame",
+                8,
+                &[WronglyRepaired, Spent],
+                frames::sixteen_bits,
+            )
+        },
+    ]
+}
+
+fn refusal_kinds() -> Vec<Kind> {
+    const LENGTH: u64 = LENGTHS as u64;
+    vec![
+        whole(
+            "refusals of words",
+            100 * LENGTH,
+            &[Number1, Number2, Number3],
+            refusals::word,
+        ),
+        whole(
+            "refusals of encode",
+            100 * LENGTH,
+            &[Number1, Number2, Number3, Number5],
+            refusals::encode,
+        ),
+        whole(
+            "refusals of read",
+            100 * LENGTH,
+            &[Number1, Number2, Number3, Number6],
+            refusals::read,
+        ),
+        whole(
+            "refusals of decode",
+            500 * LENGTH,
+            &[Number1, Number2, Number3, Number4],
+            refusals::decode,
+        ),
+        whole(
+            "refusals of row",
+            70 * LENGTH,
+            &[Row, NoRow],
+            rows::refusals,
+        ),
+    ]
+}

@@ -1,0 +1,67 @@
+//! What document 01 promises of a case by the way it was made, whatever the second program says.
+
+use crate::bits::wrong_bits;
+use crate::case::{Case, Said};
+
+pub enum Promise {
+    None,
+    /// This result, packed, and this output.
+    Exactly(u64, Vec<u8>),
+    /// A frame with at most two rows that have three or more wrong bits: number 0, at most two
+    /// passes, no bad rows or columns, and this output.
+    Mended(Vec<u8>),
+}
+
+impl Promise {
+    pub fn refused(number: u64, case: &Case) -> Promise {
+        Promise::Exactly(number, case.output.clone())
+    }
+
+    pub fn kept(&self, said: &Said) -> bool {
+        match self {
+            Promise::None => true,
+            Promise::Exactly(result, output) => said.result == *result && said.output == *output,
+            Promise::Mended(frame) => {
+                let counts = said.result >> 32;
+                said.number() == 0 && said.passes() <= 2 && counts == 0 && said.output == *frame
+            }
+        }
+    }
+
+    /// What follows for decode from the rows' numbers of wrong bits.
+    pub fn of_frame(case: &Case, written: &[u8]) -> Promise {
+        let wrong = wrong_bits(case.n, written, &case.input);
+        let total: usize = wrong.iter().sum();
+        let refused = wrong.iter().filter(|&&count| count > 2).count();
+        if total == 0 {
+            Promise::Exactly(0, written.to_vec())
+        } else if refused == 0 {
+            let (passes, flips) = (1, total as u64);
+            Promise::Exactly(passes << 8 | flips << 16, written.to_vec())
+        } else if refused <= 2 && case.argument >= 2 {
+            Promise::Mended(written.to_vec())
+        } else {
+            Promise::None
+        }
+    }
+
+    /// What follows for a word with `wrong` places, all different.
+    pub fn of_word(case: &Case, written: &[u8], wrong: &[usize]) -> Promise {
+        match *wrong {
+            [] => Promise::Exactly(0, written.to_vec()),
+            [place] => Promise::Exactly(1 << 8 | (place as u64) << 16, written.to_vec()),
+            [a, b] => {
+                let (first, second) = (a.min(b) as u64, a.max(b) as u64);
+                Promise::Exactly(2 << 8 | first << 16 | second << 32, written.to_vec())
+            }
+            // Another codeword lies at least three away.
+            [_, _, _] => Promise::beyond(case),
+            _ => Promise::None,
+        }
+    }
+
+    /// No codeword within two.
+    pub fn beyond(case: &Case) -> Promise {
+        Promise::Exactly(9, case.input.clone())
+    }
+}

@@ -1,0 +1,147 @@
+//! Single words.
+
+use crate::bits::{bit, bytes_for, flip, ones, spare_mask, xor, CHECK_BITS, LONGEST, SHORTEST};
+use crate::block::Block;
+use crate::case::{Case, Entry};
+use crate::promise::Promise;
+use crate::written::{codeword, codeword_of};
+
+fn case(block: &mut Block, n: usize, received: Vec<u8>) -> Case {
+    Case::new(&mut block.random, Entry::Word, n, received, bytes_for(n))
+}
+
+/// Checks a codeword with the bits at `wrong` flipped, and with these spare bits.
+fn check_damaged(block: &mut Block, written: &[u8], wrong: &[usize], spare: u8) {
+    let mut received = written.to_vec();
+    wrong.iter().for_each(|&place| flip(&mut received, place));
+    received[written.len() - 1] |= spare & spare_mask(block.n);
+    let case = case(block, block.n, received);
+    let promise = Promise::of_word(&case, written, wrong);
+    block.check(case, promise, written);
+}
+
+/// A random codeword, or the one whose data is all zero or all ones.
+fn some_codeword(block: &mut Block) -> Vec<u8> {
+    let data = bytes_for(block.n - CHECK_BITS);
+    match block.random.below(6) {
+        0 => codeword_of(block.code, block.n, vec![0; data]),
+        1 => codeword_of(block.code, block.n, vec![0xff; data]),
+        _ => codeword(block.code, &mut block.random, block.n),
+    }
+}
+
+/// This block's share of all words of 18. There are two codewords, both known from document 01.
+pub fn all_at_18(block: &mut Block) {
+    let lengths = LONGEST - SHORTEST + 1;
+    for number in (block.n - SHORTEST..1 << 18).step_by(lengths) {
+        let mut received = vec![
+            (number >> 10) as u8,
+            (number >> 2) as u8,
+            (number << 6) as u8,
+        ];
+        let near = [[0; 3], [0xb7, 0xb1, 0xc0]].map(|codeword| {
+            let mut damage = received.clone();
+            xor(&mut damage, &codeword);
+            (ones(&damage), damage, codeword)
+        });
+        if block.random.once_in(4) {
+            received[2] |= block.random.byte() & spare_mask(18);
+        }
+        let case = case(block, 18, received);
+        let promise = match near.iter().find(|(distance, ..)| *distance <= 2) {
+            Some((_, damage, codeword)) => {
+                let wrong: Vec<usize> = (0..18).filter(|&place| bit(damage, place)).collect();
+                Promise::of_word(&case, codeword, &wrong)
+            }
+            None => Promise::beyond(&case),
+        };
+        block.check(case, promise, &[]);
+    }
+}
+
+/// One codeword, with every one and every two places wrong.
+pub fn every_place(block: &mut Block) {
+    let n = block.n;
+    let written = codeword(block.code, &mut block.random, n);
+    for first in 0..n {
+        check_damaged(block, &written, &[first], 0);
+        if block.quick && n > 40 {
+            continue;
+        }
+        for second in first + 1..n {
+            check_damaged(block, &written, &[first, second], 0);
+        }
+    }
+}
+
+pub fn up_to_five(block: &mut Block) {
+    for index in 0..block.count {
+        let written = some_codeword(block);
+        let wrong = block.random.distinct(index % 6, block.n);
+        check_damaged(block, &written, &wrong, 0);
+    }
+}
+
+/// A codeword of 256 with one to three ones among the places that are cut away, and perhaps wrong
+/// bits in the rest, cut to n bits. It lies within three of that codeword, so that no codeword
+/// without those ones lies within two of it.
+pub fn cut_away(block: &mut Block) {
+    let n = block.n;
+    let cut = LONGEST - n;
+    if cut == 0 {
+        return;
+    }
+    for _ in 0..block.count {
+        let (away, wrong) = [(1, 0), (2, 0), (3, 0), (1, 1), (1, 2), (2, 1)][block.random.below(6)];
+        let mut data = block.random.bytes(bytes_for(LONGEST - CHECK_BITS));
+        for place in 0..cut {
+            if bit(&data, place) {
+                flip(&mut data, place);
+            }
+        }
+        for place in block.random.distinct(away.min(cut), cut) {
+            flip(&mut data, place);
+        }
+        let whole = codeword_of(block.code, LONGEST, data);
+        let mut received = vec![0; bytes_for(n)];
+        for place in (0..n).filter(|place| bit(&whole, cut + place)) {
+            flip(&mut received, place);
+        }
+        for place in block.random.distinct(wrong, n) {
+            flip(&mut received, place);
+        }
+        let case = case(block, n, received);
+        let promise = Promise::beyond(&case);
+        block.check(case, promise, &[]);
+    }
+}
+
+/// Random bytes, and words of ones with some zeros.
+pub fn random(block: &mut Block) {
+    let n = block.n;
+    for _ in 0..block.count {
+        let mut received = block.random.bytes(bytes_for(n));
+        if block.random.once_in(8) {
+            received = vec![0xff; bytes_for(n)];
+            let zeros = block.random.below(4);
+            for place in block.random.distinct(zeros, n) {
+                flip(&mut received, place);
+            }
+        }
+        let case = case(block, n, received);
+        block.check(case, Promise::None, &[]);
+    }
+}
+
+pub fn spare_bits(block: &mut Block) {
+    for index in 0..block.count {
+        let written = some_codeword(block);
+        let wrong = block.random.distinct(index % 4, block.n);
+        let spare = if block.random.once_in(4) {
+            0xff
+        } else {
+            block.random.byte() | 1
+        };
+        check_damaged(block, &written, &wrong, spare);
+    }
+}
