@@ -1,0 +1,78 @@
+//! What is timed.
+
+use compare::bits::{clear_spare_bits, square_bytes, CHECK_BITS};
+use compare::case::{Case, Entry};
+use compare::damage::{lose_row, wrong_bits, Loss};
+use compare::promise::Promise;
+use compare::random::Random;
+use compare::written::{frame_of, Written};
+use second::Code;
+
+pub struct Item {
+    pub name: &'static str,
+    /// A new case, on another random frame each time, and the answer it must get.
+    pub make: fn(&Code, &mut Random) -> (Case, Promise),
+}
+
+pub const ITEMS: [Item; 5] = [
+    Item {
+        name: "decode, n = 195, 40 wrong bits",
+        make: |code, random| {
+            decode(code, random, 195, |random, frame| {
+                wrong_bits(random, 195, frame, 40);
+            })
+        },
+    },
+    Item {
+        name: "decode, n = 195, clean",
+        make: |code, random| decode(code, random, 195, |_, _| {}),
+    },
+    Item {
+        name: "decode, n = 256, two rows lost",
+        make: |code, random| {
+            decode(code, random, 256, |random, frame| {
+                for i in random.distinct(2, 256) {
+                    lose_row(random, 256, frame, i, Loss::Noise);
+                }
+            })
+        },
+    },
+    Item {
+        name: "encode, n = 195",
+        make: |code, random| {
+            let written = random_frame(code, random, 195);
+            let case = Case::new(random, Entry::Encode, 195, written.data, square_bytes(195));
+            (case, Promise::Exactly(0, written.frame))
+        },
+    },
+    Item {
+        name: "read, n = 195",
+        make: |code, random| {
+            let written = random_frame(code, random, 195);
+            let bytes = written.data.len();
+            let case = Case::new(random, Entry::Read, 195, written.frame, bytes);
+            (case, Promise::Exactly(0, written.data))
+        },
+    },
+];
+
+fn random_frame(code: &Code, random: &mut Random, n: usize) -> Written {
+    let k = n - CHECK_BITS;
+    let mut data = random.bytes(square_bytes(k));
+    clear_spare_bits(k, &mut data);
+    frame_of(code, n, data)
+}
+
+fn decode(
+    code: &Code,
+    random: &mut Random,
+    n: usize,
+    damage: impl Fn(&mut Random, &mut [u8]),
+) -> (Case, Promise) {
+    let written = random_frame(code, random, n).frame;
+    let mut received = written.clone();
+    damage(random, &mut received);
+    let case = Case::new(random, Entry::Decode, n, received, square_bytes(n)).with(8);
+    let promise = Promise::of_frame(&case, &written);
+    (case, promise)
+}
