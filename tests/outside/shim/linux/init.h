@@ -1,0 +1,1 @@
+/* lib/bch.c includes this and uses nothing of it. */
