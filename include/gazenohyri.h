@@ -1,0 +1,118 @@
+/* Gazenohyri: encodes, repairs and reads square code frames.
+ *
+ * A frame has n rows of n bits, 18 <= n <= 256; every row and every column is a word of an extended BCH code that mends two
+ * wrong bits. Its data, k = n - 17 rows of k bits, stand in its upper left corner. A row takes the fewest whole bytes, bit 0
+ * is the top bit of the first byte, and the bits past a row's end are spare. docs/RULES.md has the exact rules.
+ *
+ * What is promised, for every n:
+ *  - Each function answers any bytes, lengths, n and allowance. What it can't take it refuses by number, and then no byte of
+ *    the output changes.
+ *  - A written frame, spoiled so that at most two of its rows have three or more wrong bits, comes back exactly, in at most two
+ *    passes, at any allowance from 2 to 32. So do any eight wrong bits, and any two rows lost whole.
+ *
+ * Where the promise ends: past that class a repair can be WRONG. Sixteen wrong bits, in four rows and four columns of a frame
+ * of 31, are 'repaired' in two passes to a frame that was never written, with number 0. Nothing in the answer tells such a
+ * frame from a good one: where a wrong frame does harm, keep the received one, and keep a checksum of the data in the data.
+ *
+ * What a caller owes:
+ *  - Each pointer is not NULL, even where its length is 0, and is good for its length: to read for the input, to write for the
+ *    output. Bytes need no alignment. The output's bytes need not be set before.
+ *  - Input and output do not overlap, and no other thread writes the input or touches the output during the call.
+ * The functions keep no state, allocate nothing and do no input or output, so any number of threads may call them at once.
+ * They take less than 1 KiB of stack.
+ */
+#ifndef GAZENOHYRI_H
+#define GAZENOHYRI_H
+
+#include <stddef.h>
+#include <stdint.h>
+
+#ifdef __cplusplus
+extern "C" {
+#endif
+
+enum {
+    GAZENOHYRI_SMALLEST_N = 18,
+    GAZENOHYRI_GREATEST_N = 256,
+    GAZENOHYRI_CHECK_BITS = 17,            /* n - k */
+    GAZENOHYRI_SMALLEST_ALLOWANCE = 1,
+    GAZENOHYRI_GREATEST_ALLOWANCE = 32,
+    GAZENOHYRI_GREATEST_FRAME_BYTES = 8192, /* a buffer of this size holds any frame, */
+    GAZENOHYRI_GREATEST_DATA_BYTES = 7170   /* and one of this size any data */
+};
+
+/* The number that a call answers. They are checked in this order, and the first that applies is given. */
+enum {
+    GAZENOHYRI_OK = 0,                /* clean, repaired, encoded or read: the output is the frame or the data */
+    GAZENOHYRI_BAD_N = 1,             /* n is not 18..256 */
+    GAZENOHYRI_BAD_INPUT_LENGTH = 2,  /* the input's length is not exactly that of n */
+    GAZENOHYRI_BAD_OUTPUT_LENGTH = 3, /* nor the output's */
+    GAZENOHYRI_BAD_ALLOWANCE = 4,     /* the allowance is not 1..32 (decode) */
+    GAZENOHYRI_SPARE_BIT_SET = 5,     /* the data have a spare bit set (encode) */
+    GAZENOHYRI_NOT_CODEWORDS = 6,     /* not a frame of codewords, spare bits aside (read) */
+    GAZENOHYRI_STUCK = 7,             /* a pass changed nothing, and words are left that are not codewords (decode) */
+    GAZENOHYRI_SPENT = 8              /* the allowance is used up, likewise (decode) */
+};
+
+/* The length in bytes of a frame, and of its data; 0 where n is not 18..256. */
+static inline size_t gazenohyri_frame_bytes(size_t n)
+{
+    return n < GAZENOHYRI_SMALLEST_N || n > GAZENOHYRI_GREATEST_N ? 0 : n * ((n + 7) / 8);
+}
+
+static inline size_t gazenohyri_data_bytes(size_t n)
+{
+    return gazenohyri_frame_bytes(n) == 0 ? 0 : (n - GAZENOHYRI_CHECK_BITS) * ((n - GAZENOHYRI_CHECK_BITS + 7) / 8);
+}
+
+/* Writes to `frame` the one frame of codewords that has these data, spare bits zero. Answers 0, 1, 2, 3 or 5.
+ * data_len: gazenohyri_data_bytes(n). frame_len: gazenohyri_frame_bytes(n). */
+uint32_t gazenohyri_encode(size_t n, const uint8_t *data, size_t data_len, uint8_t *frame, size_t frame_len);
+
+/* Repairs a received frame by passes over its rows, its columns, its rows and so on, `allowance` of them at most; 2 are enough
+ * for all that is promised above. Received spare bits are not looked at. Take the answer apart with the five functions below.
+ * Number 0: `frame` is a frame of codewords, spare bits zero. It was clean if it took 0 passes, and was repaired otherwise.
+ * Numbers 7 and 8: `frame` is what was received, byte for byte, spare bits too: no half-mended frame is handed out.
+ * Numbers 1 to 4: refused, `frame` is untouched. received_len and frame_len: gazenohyri_frame_bytes(n). */
+uint64_t gazenohyri_decode(size_t n, size_t allowance, const uint8_t *received, size_t received_len, uint8_t *frame,
+                           size_t frame_len);
+
+/* Writes to `data` the data of a frame, spare bits zero. It mends nothing: with one wrong bit in the frame the answer is 6 and
+ * `data` is untouched. The frame's spare bits are not looked at. Answers 0, 1, 2, 3 or 6.
+ * frame_len: gazenohyri_frame_bytes(n). data_len: gazenohyri_data_bytes(n). */
+uint32_t gazenohyri_read(size_t n, const uint8_t *frame, size_t frame_len, uint8_t *data, size_t data_len);
+
+/* Of decode's answer: the number. */
+static inline uint32_t gazenohyri_number(uint64_t answer)
+{
+    return (uint32_t)(answer & 0xFF);
+}
+
+/* The passes made; 0 where the number is 1 to 4. */
+static inline uint32_t gazenohyri_passes(uint64_t answer)
+{
+    return (uint32_t)(answer >> 8 & 0xFF);
+}
+
+/* The bits flipped, summed over all passes: a bit that is flipped and flipped back counts twice. 0 where refused. */
+static inline uint32_t gazenohyri_flips(uint64_t answer)
+{
+    return (uint32_t)(answer >> 16 & 0xFFFF);
+}
+
+/* The rows, and the columns, that were not codewords after the last pass; 0 unless the number is 7 or 8. */
+static inline uint32_t gazenohyri_bad_rows(uint64_t answer)
+{
+    return (uint32_t)(answer >> 32 & 0xFFFF);
+}
+
+static inline uint32_t gazenohyri_bad_columns(uint64_t answer)
+{
+    return (uint32_t)(answer >> 48 & 0xFFFF);
+}
+
+#ifdef __cplusplus
+}
+#endif
+
+#endif

@@ -1,0 +1,109 @@
+# shellcheck shell=bash
+# repair_frame as a program: its exit status, its sentence, and what is in the output file. Sourced by run.
+work=${room:?}/repair
+mkdir -p "$work/folder"
+
+zeros() { head -c "$1" /dev/zero; }
+frame18() { # FILE BYTES: as printf has them, then zeros up to a frame of 18
+    { printf '%b' "$2" && zeros 54; } | head -c 54 >"$work/$1"
+}
+frame18 a ''
+frame18 spare '\x00\x00\x20'
+frame18 one '\x00\x00\x40'
+frame18 b '\xC0'
+frame18 c '\xFF\xFF\xC0\xFF\xFF\xC0'
+frame18 d '\xE0\x00\x00\xE0\x00\x00\xE0'
+zeros 0 >"$work/empty"
+zeros 53 >"$work/short"
+zeros 55 >"$work/long"
+zeros 8192 >"$work/a256"
+zeros 8193 >"$work/long256"
+zeros 100000 >"$work/huge"
+echo 'was here before' >"$work/before"
+ln -s b "$work/link"
+inputs=$(cd "$work" && cksum -- *[!r]) # all but the folder
+
+# Runs it in the folder of the frames. OUTPUT is the file that `out` must equal then, or '-' if there must be none.
+repair() { # WHAT STATUS SENTENCE OUTPUT WORD...
+    local what=$1 status=$2 sentence=$3 output=$4 said got wrong=''
+    shift 4
+    said=$(cd "$work" && ../repair_frame "$@" 2>../repair.err)
+    got=$?
+    [ "$got" = "$status" ] || wrong+=" status $got, not $status;"
+    [ "$said" = "$sentence" ] || wrong+=" '$said', not '$sentence';"
+    [ -n "$said" ] || [ -s "$room/repair.err" ] || wrong+=" no word of what was wrong;"
+    if [ "$output" = - ]; then
+        [ ! -e "$work/out" ] || wrong+=" a file out is there;"
+    else
+        cmp -s "$work/out" "$work/$output" || wrong+=" the file out is not as $output;"
+    fi
+    [ ! -e "$work/out.part" ] || wrong+=" out.part is left behind;"
+    rm -f "$work/out" "$work/out.part"
+    if [ -z "$wrong" ]; then ok "repair_frame $*: $what"; else bad "repair_frame $*: $what:$wrong"; fi
+}
+unmended='are not codewords, nothing written'
+bad_n='refused, number 1: N is not 18 to 256, nothing written'
+bad_length='refused, number 2: the file does not have the length of a frame of N rows, nothing written'
+bad_allowance='refused, number 4: the allowance is not 1 to 32, nothing written'
+
+repair 'clean' 0 'clean' a a out 18
+repair 'clean, 256 rows' 0 'clean' a256 a256 out 256 32
+repair 'clean, the spare bit gone' 0 'clean' a spare out 18
+repair 'one bit' 0 'repaired in 1 pass, 1 bit flipped' a one out 18
+repair 'item B' 0 'repaired in 1 pass, 2 bits flipped' a b out 18 1
+repair 'item C' 0 'repaired in 2 passes, 36 bits flipped' a c out 18
+repair 'item C, allowance 1' 1 "spent after 1 pass: 2 rows and 18 columns $unmended" - c out 18 1
+repair 'item D' 1 "stuck after 2 passes: 3 rows and 3 columns $unmended" - d out 18
+cp "$work/before" "$work/out"
+repair 'an output that is there is replaced' 0 'repaired in 1 pass, 2 bits flipped' a b out 18
+cp "$work/before" "$work/out"
+repair 'and kept where nothing is repaired' 1 "stuck after 2 passes: 3 rows and 3 columns $unmended" before d out 18 32
+repair 'n' 2 "$bad_n" - b out 17
+repair 'n' 2 "$bad_n" - b out 257
+repair 'n that no size can be' 2 "$bad_n" - b out 340282366920938463463374607431768211474 # 2^128 + 18
+repair 'length' 2 "$bad_length" - short out 18
+repair 'length' 2 "$bad_length" - long out 18
+repair 'length' 2 "$bad_length" - empty out 18
+repair 'length' 2 "$bad_length" - long256 out 256
+repair 'length' 2 "$bad_length" - huge out 256
+repair 'allowance' 2 "$bad_allowance" - b out 18 0
+repair 'allowance' 2 "$bad_allowance" - b out 18 33
+repair 'no words' 2 '' -
+repair 'too few words' 2 '' - b out
+repair 'too many words' 2 '' - b out 18 2 2
+repair 'not a number' 2 '' - b out 18x
+repair 'not a number' 2 '' - b out -18
+repair 'not a number' 2 '' - b out 18 ''
+repair 'the output is the input' 2 '' - b ./b 18
+repair 'the output is a link to the input' 2 '' - b link 18
+repair 'no such file' 3 '' - nowhere out 18
+repair 'a folder as input' 3 '' - folder out 18
+repair 'no such folder' 3 '' - b nowhere/out 18
+repair 'a folder as output' 3 '' - b folder 18
+if [ "$(id -u)" != 0 ]; then # root may write everywhere
+    chmod 555 "$work/folder"
+    repair 'a folder that is not to be written' 3 '' - b folder/out 18
+    chmod 755 "$work/folder"
+fi
+if (trap '' XFSZ && ulimit -f 0) 2>/dev/null; then
+    (cd "$work" && trap '' XFSZ && ulimit -f 0 && ../repair_frame b out 18 2>&1) | grep -qF 'cannot write out.part'
+    both=${PIPESTATUS[*]}
+    if [ "$both" = '3 0' ] && [ ! -e "$work/out" ] && [ ! -e "$work/out.part" ]; then
+        ok 'repair_frame where no byte can be written: status 3, and no file is left'
+    else
+        bad "repair_frame where no byte can be written: status $both, $(cd "$work" && echo out*)"
+    fi
+fi
+echo 'of another' >"$work/out.part"
+(cd "$work" && ../repair_frame b out 18) >/dev/null 2>&1
+if [ $? = 3 ] && [ "$(cat "$work/out.part")" = 'of another' ] && [ ! -e "$work/out" ]; then
+    ok 'repair_frame where out.part is there already: status 3, and it is kept'
+else
+    bad 'repair_frame where out.part is there already'
+fi
+rm -f "$work/out.part"
+if [ "$(cd "$work" && cksum -- *[!r])" = "$inputs" ]; then
+    ok 'repair_frame: no input changed'
+else
+    bad 'repair_frame: an input changed'
+fi

@@ -1,0 +1,78 @@
+/* Prints how many bytes of stack each function takes at n = 256: it is called on a stack that is painted below the caller. */
+#define _DEFAULT_SOURCE /* MAP_ANONYMOUS */
+#include "gazenohyri.h"
+
+#include <pthread.h>
+#include <stdio.h>
+#include <stdlib.h>
+#include <sys/mman.h>
+
+enum { STACK = 1 << 18, PAINT = 0xC3, N = 256, MOST = 1024 }; /* MOST: what gazenohyri.h says */
+
+static uint8_t data[GAZENOHYRI_GREATEST_DATA_BYTES], frame[GAZENOHYRI_GREATEST_FRAME_BYTES];
+static uint8_t received[GAZENOHYRI_GREATEST_FRAME_BYTES];
+static uint8_t *stack;
+static uint64_t answer;
+
+static void encode(void)
+{
+    answer = gazenohyri_encode(N, data, sizeof data, frame, sizeof frame);
+}
+
+static void decode(void)
+{
+    answer = gazenohyri_decode(N, 32, received, sizeof received, frame, sizeof frame);
+}
+
+static void read_data(void)
+{
+    answer = gazenohyri_read(N, frame, sizeof frame, data, sizeof data);
+}
+
+typedef struct {
+    void (*call)(void);
+    size_t touched;
+} Measured;
+
+/* Everything of the stack below this function's frame is free while it calls nothing. */
+static void *measure(void *given)
+{
+    Measured *measured = (Measured *)given;
+    uint8_t *here = (uint8_t *)__builtin_frame_address(0);
+    volatile uint8_t *low = stack, *high = here - 256;
+    for (volatile uint8_t *at = low; at < high; at++)
+        *at = PAINT;
+    measured->call();
+    while (low < high && *low == PAINT)
+        low++;
+    measured->touched = (size_t)(here - low);
+    return NULL;
+}
+
+static size_t stack_use(void (*call)(void))
+{
+    Measured measured = {call, 0};
+    pthread_attr_t attributes;
+    pthread_t thread;
+    if (pthread_attr_init(&attributes) || pthread_attr_setstack(&attributes, stack, STACK) ||
+        pthread_create(&thread, &attributes, measure, &measured) || pthread_join(thread, NULL)) {
+        puts("no thread on a stack of its own");
+        exit(1);
+    }
+    return measured.touched;
+}
+
+int main(void)
+{
+    void *at = mmap(NULL, STACK, PROT_READ | PROT_WRITE, MAP_PRIVATE | MAP_ANONYMOUS, -1, 0);
+    if (at == MAP_FAILED)
+        return 1;
+    stack = (uint8_t *)at;
+    data[0] = 0x80;
+    size_t encoding = stack_use(encode), reading = stack_use(read_data);
+    for (size_t i = 0; i < sizeof frame; i++)
+        received[i] = (uint8_t)(frame[i] ^ (i % 32 < 3 ? i % 251 : 0)); /* many words of none, one, two and more wrong bits */
+    size_t decoding = stack_use(decode);
+    printf("encode %zu, decode %zu, read %zu bytes of stack at most\n", encoding, decoding, reading);
+    return encoding < MOST && decoding < MOST && reading < MOST ? 0 : 1;
+}
