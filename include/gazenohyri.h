@@ -41,16 +41,16 @@ enum {
     GAZENOHYRI_GREATEST_DATA_BYTES = 7170   /* and one of this size any data */
 };
 
-/* The number that a call answers. They are checked in this order, and the first that applies is given. */
+/* The number that a call answers: 0, or the first of the others that applies, checked in this order. */
 enum {
     GAZENOHYRI_OK = 0,                /* clean, repaired, encoded or read: the output is the frame or the data */
     GAZENOHYRI_BAD_N = 1,             /* n is not 18..256 */
     GAZENOHYRI_BAD_INPUT_LENGTH = 2,  /* the input's length is not exactly that of n */
-    GAZENOHYRI_BAD_OUTPUT_LENGTH = 3, /* nor the output's */
+    GAZENOHYRI_BAD_OUTPUT_LENGTH = 3, /* the output's length is not exactly that of n */
     GAZENOHYRI_BAD_ALLOWANCE = 4,     /* the allowance is not 1..32 (decode) */
     GAZENOHYRI_SPARE_BIT_SET = 5,     /* the data have a spare bit set (encode) */
     GAZENOHYRI_NOT_CODEWORDS = 6,     /* not a frame of codewords, spare bits aside (read) */
-    GAZENOHYRI_STUCK = 7,             /* a pass changed nothing, and words are left that are not codewords (decode) */
+    GAZENOHYRI_STUCK = 7,             /* pass 2 or a later one changed nothing, and not all words are codewords (decode) */
     GAZENOHYRI_SPENT = 8              /* the allowance is used up, likewise (decode) */
 };
 

@@ -23,6 +23,7 @@ typedef struct {
 static Lent input, output;
 static size_t pages_length;
 static Placement placement;
+static bool untouchable;
 
 static void stop(const char *why)
 {
@@ -64,6 +65,11 @@ void place_buffers(Placement where)
     placement = where;
 }
 
+void expect_refusal(bool refused)
+{
+    untouchable = refused;
+}
+
 static void lend(Lent *buffer, const uint8_t *bytes, size_t length)
 {
     buffer->length = length;
@@ -97,22 +103,26 @@ static void take_back(Lent *buffer)
     EXPECT(is_around(end, buffer->pages + pages_length));
 }
 
-static void protect_input(int protection)
+static void protect(const Lent *buffer, int protection)
 {
-    if (placement != ON_THE_HEAP && mprotect(input.pages, pages_length, protection))
-        stop("the input's pages can't be protected");
+    if (placement != ON_THE_HEAP && mprotect(buffer->pages, pages_length, protection))
+        stop("pages can't be protected");
 }
 
 static void before(const uint8_t *in, size_t in_len, const uint8_t *out, size_t out_len)
 {
     lend(&input, in, in_len);
     lend(&output, out, out_len);
-    protect_input(PROT_READ);
+    protect(&input, PROT_READ);
+    if (untouchable)
+        protect(&output, PROT_READ);
 }
 
 static void after(const uint8_t *in, uint8_t *out)
 {
-    protect_input(PROT_READ | PROT_WRITE);
+    protect(&input, PROT_READ | PROT_WRITE);
+    protect(&output, PROT_READ | PROT_WRITE);
+    untouchable = false;
     EXPECT(memcmp(input.bytes, in, input.length) == 0);
     memcpy(out, output.bytes, output.length);
     take_back(&input);

@@ -193,6 +193,7 @@ static void unreadable(size_t n, const uint8_t *frame)
 {
     uint8_t data[MOST_BYTES];
     fill(data, sizeof data);
+    expect_refusal(true);
     EXPECT_EQUAL(call_read(n, frame, gazenohyri_frame_bytes(n), data, gazenohyri_data_bytes(n)), 6);
     EXPECT(is_filled(data, sizeof data));
 }

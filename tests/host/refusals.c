@@ -69,6 +69,7 @@ static void encode_at(size_t n, size_t data_len, size_t frame_len, bool faulty)
     if (faulty && has_spare_bits && number == 0)
         number = 5;
     fill(frame, sizeof frame);
+    expect_refusal(number != 0);
     EXPECT_EQUAL(call_encode(n, data, data_len, frame, frame_len), number);
     EXPECT((number == 0) != is_filled(frame, sizeof frame));
 }
@@ -83,6 +84,7 @@ static void read_at(size_t n, size_t frame_len, size_t data_len, bool faulty)
     if (faulty && number == 0)
         number = 6;
     fill(data, sizeof data);
+    expect_refusal(number != 0);
     EXPECT_EQUAL(call_read(n, frame, frame_len, data, data_len), number);
     EXPECT((number == 0) != is_filled(data, sizeof data));
 }
@@ -113,6 +115,7 @@ static void decode_at(size_t n, size_t allowance, size_t received_len, size_t fr
     if (number == 0)
         set_spare_bits(n, received);
     fill(frame, sizeof frame);
+    expect_refusal(number != 0);
     uint64_t answer = call_decode(n, allowance, received, received_len, frame, frame_len);
     if (number == 0) {
         EXPECT_EQUAL(answer, packed(0, 1, 2, 0, 0));
@@ -145,6 +148,7 @@ void every_spare_bit_of_data(void)
         for (size_t i = 0; i < k; i++)
             for (size_t j = k; j % 8 != 0; j++) {
                 flip_bit(k, data, i, j);
+                expect_refusal(true);
                 EXPECT_EQUAL(call_encode(n, data, data_len, frame, frame_len), 5);
                 EXPECT(is_filled(frame, sizeof frame));
                 flip_bit(k, data, i, j);

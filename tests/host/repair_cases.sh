@@ -41,7 +41,7 @@ repair() { # WHAT STATUS SENTENCE OUTPUT WORD...
     rm -f "$work/out" "$work/out.part"
     if [ -z "$wrong" ]; then ok "repair_frame $*: $what"; else bad "repair_frame $*: $what:$wrong"; fi
 }
-unmended='are not codewords, nothing written'
+unmended='left that are not codewords, nothing written'
 bad_n='refused, number 1: N is not 18 to 256, nothing written'
 bad_length='refused, number 2: the file does not have the length of a frame of N rows, nothing written'
 bad_allowance='refused, number 4: the allowance is not 1 to 32, nothing written'

@@ -1,6 +1,6 @@
 /* repair_frame IN OUT N [ALLOWANCE]
  *
- * Repairs the frame of N rows in the file IN and writes it to the file OUT: a host program in C, as small as it can be.
+ * Repairs the frame of N rows in the file IN and writes it to the file OUT: a small host program in C.
  * It says on standard output what happened, and exits with
  *   0  clean or repaired: OUT is written
  *   1  stuck or spent: nothing is written
@@ -136,7 +136,7 @@ static int report(uint64_t answer)
         print_count(number == GAZENOHYRI_STUCK ? "stuck after " : "spent after ", passes, "pass", "passes");
         print_count(": ", gazenohyri_bad_rows(answer), "row", "rows");
         print_count(" and ", gazenohyri_bad_columns(answer), "column", "columns");
-        printf(" are not codewords, nothing written\n");
+        printf(" left that are not codewords, nothing written\n");
         return NOT_REPAIRED;
     }
     printf("refused, number %u: %s, nothing written\n", (unsigned)number, reason(number));

@@ -1,4 +1,5 @@
-/* Prints how many bytes of stack each function takes at n = 256: it is called on a stack that is painted below the caller. */
+/* Prints how many bytes of stack each function takes at n = 256: it is called on a stack that is painted below the caller, from
+ * SPARED bytes on. Less than that is not told apart. */
 #define _DEFAULT_SOURCE /* MAP_ANONYMOUS */
 #include "gazenohyri.h"
 
@@ -7,7 +8,7 @@
 #include <stdlib.h>
 #include <sys/mman.h>
 
-enum { STACK = 1 << 18, PAINT = 0xC3, N = 256, MOST = 1024 }; /* MOST: what gazenohyri.h says */
+enum { STACK = 1 << 18, PAINT = 0xC3, SPARED = 256, N = 256, MOST = 1024 }; /* MOST: what gazenohyri.h says */
 
 static uint8_t data[GAZENOHYRI_GREATEST_DATA_BYTES], frame[GAZENOHYRI_GREATEST_FRAME_BYTES];
 static uint8_t received[GAZENOHYRI_GREATEST_FRAME_BYTES];
@@ -39,7 +40,7 @@ static void *measure(void *given)
 {
     Measured *measured = (Measured *)given;
     uint8_t *here = (uint8_t *)__builtin_frame_address(0);
-    volatile uint8_t *low = stack, *high = here - 256;
+    volatile uint8_t *low = stack, *high = here - SPARED;
     for (volatile uint8_t *at = low; at < high; at++)
         *at = PAINT;
     measured->call();
@@ -49,7 +50,7 @@ static void *measure(void *given)
     return NULL;
 }
 
-static size_t stack_use(void (*call)(void))
+static size_t stack_use(void (*call)(void), uint64_t number)
 {
     Measured measured = {call, 0};
     pthread_attr_t attributes;
@@ -57,6 +58,10 @@ static size_t stack_use(void (*call)(void))
     if (pthread_attr_init(&attributes) || pthread_attr_setstack(&attributes, stack, STACK) ||
         pthread_create(&thread, &attributes, measure, &measured) || pthread_join(thread, NULL)) {
         puts("no thread on a stack of its own");
+        exit(1);
+    }
+    if (gazenohyri_number(answer) != number) {
+        puts("a call was refused, or not answered as it must be");
         exit(1);
     }
     return measured.touched;
@@ -69,10 +74,14 @@ int main(void)
         return 1;
     stack = (uint8_t *)at;
     data[0] = 0x80;
-    size_t encoding = stack_use(encode), reading = stack_use(read_data);
+    size_t encoding = stack_use(encode, 0), reading = stack_use(read_data, 0);
     for (size_t i = 0; i < sizeof frame; i++)
         received[i] = (uint8_t)(frame[i] ^ (i % 32 < 3 ? i % 251 : 0)); /* many words of none, one, two and more wrong bits */
-    size_t decoding = stack_use(decode);
+    size_t decoding = stack_use(decode, GAZENOHYRI_SPENT);
+    if (gazenohyri_passes(answer) < 2 || gazenohyri_flips(answer) == 0) {
+        puts("decode had too little to do");
+        return 1;
+    }
     printf("encode %zu, decode %zu, read %zu bytes of stack at most\n", encoding, decoding, reading);
     return encoding < MOST && decoding < MOST && reading < MOST ? 0 : 1;
 }

@@ -2,10 +2,7 @@
 #ifndef CODE_H
 #define CODE_H
 
-#include <stddef.h>
-#include <stdint.h>
-
-uint32_t gazenohyri_encode(size_t n, const uint8_t *data, size_t data_len, uint8_t *frame, size_t frame_len);
+#include "gazenohyri.h"
 
 /* Bits 0..7 the number, 8..15 how many places were changed, 16..31 the first place, 32..47 the second. */
 uint64_t probe_word(size_t n, const uint8_t *received, size_t received_len, uint8_t *word, size_t word_len);

@@ -1,4 +1,4 @@
-// The three functions of include/gazenohyri.h. They require nothing but what C owes: pointers that are valid for their lengths.
+// The three functions of include/gazenohyri.h. They require nothing but what the header says that a caller owes.
 use crate::pack::pack_report;
 use frame::decode::decode;
 use frame::encode::encode;

@@ -34,6 +34,9 @@ pub record Packs : Type 0 where
   pub fits : (n allowance : ℕ) (received output : List ℕ) → Fits (figuresOf (decodeSaid n allowance received output))
   pub in-64-bits : (f : Figures) → Fits f → packedFigures f < 2 ^ 64
   pub read-back : (f : Figures) → Fits f → unpackedFigures (packedFigures f) ≡ f
+  -- bench item C with allowance 1: number 8, 1 pass, 0 flips, 2 rows, 18 columns. In hex, 0012 0002 0000 01 08
+  pub example :
+      packedFigures (record { number = 8; passes = 1; flips = 0; rows = 2; columns = 18 }) ≡ 5066558170726664
 
 -- ---- a word's flips
 
@@ -187,6 +190,7 @@ pub packs : Packs
 unfolding packedFigures unpackedFigures
 packs = record {
   fits = said-fits;
+  example = refl;
   in-64-bits = λ f h.
       sum-small (f .number) (f .passes) (f .flips) (f .rows) (f .columns) (h .number) (h .passes) (h .flips) (h .rows) (h .columns);
   read-back = λ f h.
