@@ -96,14 +96,14 @@ pub enum Answer {
     /// Changing these places, the lower first, gives a codeword.
     TwoPlaces(usize, usize),
     /// No codeword lies within two places.
-    Beyond,
+    NoCodeword,
 }
 
 impl Answer {
     /// 9 if no codeword lies within two places, else 0.
     pub fn number(&self) -> u32 {
         match self {
-            Answer::Beyond => 9,
+            Answer::NoCodeword => 9,
             _ => 0,
         }
     }

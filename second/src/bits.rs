@@ -58,7 +58,7 @@ impl Word {
     /// This word with the places that `answer` names flipped.
     pub fn corrected(mut self, answer: Answer) -> Word {
         match answer {
-            Answer::Codeword | Answer::Beyond => {}
+            Answer::Codeword | Answer::NoCodeword => {}
             Answer::OnePlace(place) => self.flip(place),
             Answer::TwoPlaces(lower, higher) => {
                 self.flip(lower);

@@ -6,8 +6,8 @@
 //!
 //! # How it works
 //!
-//! A word's *checks* are 17 bits: the remainder modulo g of its first n − 1
-//! bits, and the parity of all n. They are zero for a codeword, and flipping a
+//! A word's *checks* are 17 bits: the parity of all n above the remainder
+//! modulo g of the first n − 1. They are zero for a codeword, and flipping a
 //! place changes them by an amount that depends only on how far the place is
 //! from the word's end. [`Code::new`] therefore writes down all patterns of
 //! one and of two places, once, in an array indexed by their checks. Finding
@@ -139,7 +139,7 @@ impl Code {
         let start = Word::unpack(n, received);
         let answer = self.tables.answer(n, &start);
         match answer {
-            Answer::Beyond => word.copy_from_slice(received),
+            Answer::NoCodeword => word.copy_from_slice(received),
             _ => start.corrected(answer).pack(n, word),
         }
         Ok(answer)

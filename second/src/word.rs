@@ -14,6 +14,9 @@ pub const CHECK_BITS: usize = 17;
 const G: u32 =
     1 << 14 | 1 << 13 | 1 << 11 | 1 << 10 | 1 << 9 | 1 << 8 | 1 << 6 | 1 << 5 | 1 << 1 | 1 << 0;
 
+/// The parity among a word's checks. The 16 bits below it are the remainder.
+const PARITY: u32 = 1 << 16;
+
 /// What is wrong with a word that has certain checks. A place is given by its
 /// distance from the word's last bit, which makes it the same for every n.
 #[derive(Clone, Copy, Debug, PartialEq, Eq)]
@@ -41,8 +44,8 @@ impl Tables {
         }
     }
 
-    /// The remainder of the first n − 1 bits, then, as lowest bit, the parity
-    /// of all n. Zero for codewords and for nothing else.
+    /// The parity of all n bits, and below it the remainder of the first
+    /// n − 1. Zero for codewords and for nothing else.
     pub fn checks(&self, n: usize, word: &Word) -> u32 {
         let bytes = word.bytes();
         let (whole, rest) = ((n - 1) / 8, (n - 1) % 8);
@@ -53,7 +56,8 @@ impl Tables {
         // Appends nothing if the bytes were all.
         let last = u32::from(bytes[whole]) >> (8 - rest);
         remainder = self.append(remainder, rest, last);
-        remainder << 1 | word.ones() & 1
+        let parity = PARITY * (word.ones() & 1);
+        parity | remainder
     }
 
     /// The remainder of a polynomial to which `count` ≤ 8 further coefficients
@@ -75,13 +79,13 @@ impl Tables {
             Pattern::Nothing => Answer::Codeword,
             Pattern::One(distance) => match place(distance) {
                 Some(place) => Answer::OnePlace(place),
-                None => Answer::Beyond,
+                None => Answer::NoCodeword,
             },
             Pattern::Two(near, far) => match (place(far), place(near)) {
                 (Some(lower), Some(higher)) => Answer::TwoPlaces(lower, higher),
-                _ => Answer::Beyond,
+                _ => Answer::NoCodeword,
             },
-            Pattern::Other => Answer::Beyond,
+            Pattern::Other => Answer::NoCodeword,
         }
     }
 
@@ -91,8 +95,8 @@ impl Tables {
         // Adding the remainder to data(z) z^16 takes it away, and its ones
         // count for the parity too.
         let checks = self.checks(n, data);
-        let parity = checks.count_ones() & 1;
-        let tail = u64::from(checks & !1 | parity) << (64 - CHECK_BITS);
+        let (remainder, last) = (checks & !PARITY, checks.count_ones() & 1);
+        let tail = u64::from(remainder << 1 | last) << (64 - CHECK_BITS);
         let (part, shift) = ((n - CHECK_BITS) / 64, (n - CHECK_BITS) % 64);
         let mut word = *data;
         word.0[part] |= tail >> shift;
@@ -127,10 +131,10 @@ fn remainders() -> [u32; 256] {
 fn checks_of_places() -> [u32; LONGEST] {
     let mut checks = [0; LONGEST];
     // The last bit belongs to no power of z, the one before it to z^0.
-    checks[0] = 1;
+    checks[0] = PARITY;
     let mut power = 1;
     for entry in &mut checks[1..] {
-        *entry = power << 1 | 1;
+        *entry = PARITY | power;
         power = times_z(power);
     }
     checks
@@ -147,11 +151,11 @@ fn patterns() -> Vec<Pattern> {
         *entry = pattern;
     };
     enter(0, Pattern::Nothing);
-    for near in 0..=255u8 {
-        let checks = places[usize::from(near)];
-        enter(checks, Pattern::One(near));
-        for far in (near..=255).skip(1) {
-            enter(checks ^ places[usize::from(far)], Pattern::Two(near, far));
+    for near in 0..LONGEST {
+        enter(places[near], Pattern::One(near as u8));
+        for far in near + 1..LONGEST {
+            let pattern = Pattern::Two(near as u8, far as u8);
+            enter(places[near] ^ places[far], pattern);
         }
     }
     patterns

@@ -114,7 +114,7 @@ fn words_of_18() {
     assert_eq!(answer.number(), 0);
     let received = vec![0xe0, 0, 0x01];
     let (answer, word) = decode_word(18, &received);
-    assert_eq!((answer, word), (Answer::Beyond, received));
+    assert_eq!((answer, word), (Answer::NoCodeword, received));
     assert_eq!(answer.number(), 9);
 }
 
@@ -126,7 +126,7 @@ fn words_of_ones() {
         let mut ones = vec![0xff; 32];
         ones[31] = last;
         let n = 248 + last.count_ones() as usize;
-        assert_eq!(decode_word(n, &ones), (Answer::Beyond, ones));
+        assert_eq!(decode_word(n, &ones), (Answer::NoCodeword, ones));
     }
 }
 

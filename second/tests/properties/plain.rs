@@ -89,6 +89,6 @@ pub fn expected_answer(received: &[bool], codeword: &[bool]) -> Answer {
         [] => Answer::Codeword,
         [place] => Answer::OnePlace(place),
         [lower, higher] => Answer::TwoPlaces(lower, higher),
-        _ => Answer::Beyond,
+        _ => Answer::NoCodeword,
     }
 }

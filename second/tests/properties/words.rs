@@ -15,7 +15,7 @@ fn every_word_of_18() {
         let distance = |c: &&Vec<bool>| differences(&received, c).len();
         let near = codewords.iter().min_by_key(distance).unwrap();
         let answer = expected_answer(&received, near);
-        let output = if answer == Answer::Beyond {
+        let output = if answer == Answer::NoCodeword {
             &received
         } else {
             near
@@ -50,9 +50,9 @@ fn words_of_every_length() {
     }
 }
 
-/// An accepted word is a codeword that differs just in the places named; with
-/// three places wrong, the answer may be no codeword at all, as distinct
-/// codewords differ in six.
+/// An accepted word is a codeword that differs just in the places named. With
+/// three places wrong there is never one: distinct codewords differ in six, so
+/// that every other codeword lies three away or more.
 #[test]
 fn words_far_from_a_codeword() {
     let code = Code::new();
@@ -62,7 +62,7 @@ fn words_far_from_a_codeword() {
         let n = 18 + round % 239;
         let received = random.bits(n);
         let (answer, word) = decode_word(&code, &received);
-        if answer == Answer::Beyond {
+        if answer == Answer::NoCodeword {
             assert_eq!(word, received);
         } else {
             accepted += 1;
@@ -74,25 +74,27 @@ fn words_far_from_a_codeword() {
         for place in [start, start + 1, n - 1] {
             wrong[place] ^= true;
         }
-        assert_eq!(decode_word(&code, &wrong), (Answer::Beyond, wrong));
+        assert_eq!(decode_word(&code, &wrong), (Answer::NoCodeword, wrong));
     }
     assert!(accepted > 100);
 }
 
+/// All codewords of up to 15 data bits. The sum of two is a codeword, and they
+/// differ in as many places as it has ones. For longer words it follows from
+/// the test beside the table of patterns: as no two of these share their
+/// checks, codewords differ in five places, and in an even number of them.
 #[test]
 fn distinct_codewords_differ_in_six_places() {
     let code = Code::new();
-    for n in [18, 19, 64, 195, 256] {
+    for n in 18..=32 {
         let k = n - 17;
-        // Sums of codewords are codewords, so ones with few data bits do.
-        for a in 0..k {
-            for b in a..k {
-                let mut data = vec![false; k];
-                data[a] = true;
-                data[b] = true;
-                let word = encode_word(&code, n, &data);
-                assert!(word.iter().filter(|&&bit| bit).count() >= 6);
-            }
-        }
+        let ones = |number: u32| {
+            let data: Vec<bool> = (0..k).map(|j| number >> j & 1 == 1).collect();
+            let word = encode_word(&code, n, &data);
+            word.iter().filter(|&&bit| bit).count()
+        };
+        let fewest = (1..1 << k).map(ones).min().unwrap();
+        assert!(fewest >= 6);
+        assert_eq!(fewest == 6, n >= 31, "n = {}", n);
     }
 }
