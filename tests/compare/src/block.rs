@@ -3,9 +3,11 @@
 
 use crate::bits::{LONGEST, SHORTEST};
 use crate::case::Case;
+use crate::division::{is_codeword, is_frame_of};
 use crate::promise::Promise;
 use crate::random::Random;
 use crate::tally::{keep_smallest, Found, Seen, Tally};
+use crate::written::{self, Written};
 use second::Code;
 use std::ops::RangeInclusive;
 use std::sync::atomic::{AtomicUsize, Ordering};
@@ -52,6 +54,34 @@ pub struct Block<'a> {
 }
 
 impl Block<'_> {
+    /// The frame of `data`, made by the second program and divided to see that it is one.
+    pub fn write(&mut self, data: Vec<u8>) -> Written {
+        let written = written::frame_of(self.code, self.n, data);
+        self.divide(&written.data, &written.frame, true);
+        written
+    }
+
+    pub fn write_random(&mut self) -> Written {
+        let data = written::data(&mut self.random, self.n);
+        self.write(data)
+    }
+
+    /// The codeword of n bits that begins with `data`, made and divided likewise.
+    pub fn write_word(&mut self, n: usize, data: Vec<u8>) -> Vec<u8> {
+        let word = written::codeword_of(self.code, n, data);
+        if !is_codeword(n, &word) {
+            self.tally.misjudged += 1;
+        }
+        word
+    }
+
+    /// By long division, `frame` must be the one of `data`, or (not expected) must not be.
+    pub fn divide(&mut self, data: &[u8], frame: &[u8], expected: bool) {
+        if is_frame_of(self.n, data, frame) != expected {
+            self.tally.misjudged += 1;
+        }
+    }
+
     /// Puts a case to both sides. `written` is what was there before the damage, or empty.
     pub fn check(&mut self, case: Case, promise: Promise, written: &[u8]) {
         let (proved, second) = (case.proved(), case.second(self.code));

@@ -43,6 +43,10 @@ impl Said {
     pub fn passes(&self) -> u64 {
         self.result >> 8 & 0xff
     }
+
+    pub fn flips(&self) -> u64 {
+        self.result >> 16 & 0xffff
+    }
 }
 
 impl Case {
@@ -159,7 +163,7 @@ fn pack_report(report: &Report) -> u64 {
 fn pack_answer(answer: &Answer) -> u64 {
     let number = u64::from(answer.number());
     match *answer {
-        Answer::Codeword | Answer::Beyond => number,
+        Answer::Codeword | Answer::NoCodeword => number,
         Answer::OnePlace(place) => number | 1 << 8 | (place as u64) << 16,
         Answer::TwoPlaces(first, second) => {
             number | 2 << 8 | (first as u64) << 16 | (second as u64) << 32

@@ -13,17 +13,10 @@ pub struct Coverage {
 
 pub fn coverage(total: &Tally, scale: Scale) -> Vec<Coverage> {
     use Seen::*;
-    let words = [Codeword, OnePlace, TwoPlaces, Beyond];
+    let words = [Codeword, OnePlace, TwoPlaces, NoCodeword];
     let frames = [Clean, Repaired, Stuck, Spent];
     let special = [WronglyRepaired, RepairedLate, StuckInTwo, StuckLate];
     let refused = [Number1, Number2, Number3, Number4, Number5, Number6];
-    let sum = |kinds: &[Seen]| kinds.iter().map(|&kind| total.count(kind)).sum();
-    let (word_cases, frame_cases): (u64, u64) = (sum(&words), sum(&frames));
-    let least = if scale.quick {
-        (20_000, 2_000)
-    } else {
-        (1_000_000, 100_000)
-    };
     vec![
         met("the four answers for words", total, &words),
         met("the four endings for frames", total, &frames),
@@ -33,21 +26,36 @@ pub fn coverage(total: &Tally, scale: Scale) -> Vec<Coverage> {
             met: total.allowances >> 1 & 0xffff_ffff == 0xffff_ffff && total.most_passes == 32,
             counts: format!("most passes {}", total.most_passes),
         },
-        met("the refusals 1 to 6", total, &refused),
         Coverage {
-            name: "enough cases, and enough promises",
-            met: word_cases >= least.0
-                && frame_cases >= least.1
-                && total.promises * 2 > total.cases,
-            counts: format!(
-                "words {}, frames {}, all {}, with a promise {}",
-                grouped(word_cases),
-                grouped(frame_cases),
-                grouped(total.cases),
-                grouped(total.promises)
-            ),
+            name: "flips past 12 bits in one frame",
+            met: scale.quick || total.most_flips >= 1 << 12,
+            counts: format!("most flips {}", grouped(total.most_flips)),
         },
+        met("the refusals 1 to 6", total, &refused),
+        enough(total, scale, &words, &frames),
     ]
+}
+
+/// Enough words and frames got one of these answers, and more than half of all cases have a promise.
+fn enough(total: &Tally, scale: Scale, words: &[Seen], frames: &[Seen]) -> Coverage {
+    let sum = |kinds: &[Seen]| kinds.iter().map(|&kind| total.count(kind)).sum::<u64>();
+    let (words, frames) = (sum(words), sum(frames));
+    let least = if scale.quick {
+        (20_000, 2_000)
+    } else {
+        (1_000_000, 100_000)
+    };
+    Coverage {
+        name: "enough cases, and enough promises",
+        met: words >= least.0 && frames >= least.1 && total.promises * 2 > total.cases,
+        counts: format!(
+            "words {}, frames {}, all {}, with a promise {}",
+            grouped(words),
+            grouped(frames),
+            grouped(total.cases),
+            grouped(total.promises)
+        ),
+    }
 }
 
 /// Each of these answers was met.

@@ -7,7 +7,7 @@ use crate::block::Block;
 use crate::case::{Case, Entry};
 use crate::damage;
 use crate::promise::Promise;
-use crate::written::{self, frame_of, Written};
+use crate::written::{self, Written};
 
 fn encode_case(block: &mut Block, data: Vec<u8>) -> Case {
     let bytes = square_bytes(block.n);
@@ -19,8 +19,8 @@ fn read_case(block: &mut Block, frame: Vec<u8>) -> Case {
     Case::new(&mut block.random, Entry::Read, block.n, frame, bytes)
 }
 
-/// The first frame of each n is empty, the second full.
-fn some_frame(block: &mut Block, index: usize) -> Written {
+/// The first data of each n is empty, the second full.
+fn some_data(block: &mut Block, index: usize) -> Vec<u8> {
     let k = block.n - CHECK_BITS;
     let mut data = match index {
         0 => vec![0; square_bytes(k)],
@@ -28,7 +28,12 @@ fn some_frame(block: &mut Block, index: usize) -> Written {
         _ => written::data(&mut block.random, block.n),
     };
     clear_spare_bits(k, &mut data);
-    frame_of(block.code, block.n, data)
+    data
+}
+
+fn some_frame(block: &mut Block, index: usize) -> Written {
+    let data = some_data(block, index);
+    block.write(data)
 }
 
 /// Encodes data and reads the frame: both sides must give the same frame, and from it the data.
@@ -36,7 +41,8 @@ pub fn encode(block: &mut Block) {
     for index in 0..block.count {
         let written = some_frame(block, index);
         let case = encode_case(block, written.data.clone());
-        block.check(case, Promise::Exactly(0, written.frame.clone()), &[]);
+        let promise = Promise::encoded(&case);
+        block.check(case, promise, &[]);
         let case = read_case(block, written.frame.clone());
         block.check(case, Promise::Exactly(0, written.data), &written.frame);
     }
@@ -46,7 +52,7 @@ pub fn encode(block: &mut Block) {
 pub fn encode_spare_bits(block: &mut Block) {
     let k = block.n - CHECK_BITS;
     for index in 0..block.count {
-        let Written { mut data, frame } = some_frame(block, index);
+        let mut data = some_data(block, index);
         let i = block.random.below(k);
         if block.random.once_in(2) {
             damage::set_spare_bits(&mut block.random, k, row_mut(k, &mut data, i));
@@ -58,7 +64,7 @@ pub fn encode_spare_bits(block: &mut Block) {
         let promise = if refused {
             Promise::refused(5, &case)
         } else {
-            Promise::Exactly(0, frame)
+            Promise::encoded(&case)
         };
         block.check(case, promise, &[]);
     }

@@ -4,6 +4,7 @@ use crate::bits::{flip_at, row_mut, square_bytes};
 use crate::block::Block;
 use crate::case::{Case, Entry};
 use crate::damage;
+use crate::division::Places;
 use crate::promise::Promise;
 use crate::random::Random;
 use crate::written::{self, add_crossings, six_places};
@@ -17,7 +18,7 @@ fn allowance(random: &mut Random) -> usize {
     }
 }
 
-fn case(block: &mut Block, allowance: usize, received: Vec<u8>) -> Case {
+pub fn case(block: &mut Block, allowance: usize, received: Vec<u8>) -> Case {
     let bytes = square_bytes(block.n);
     Case::new(&mut block.random, Entry::Decode, block.n, received, bytes).with(allowance)
 }
@@ -29,7 +30,7 @@ fn each(
     damage: impl Fn(&mut Random, usize, &mut [u8]),
 ) {
     for _ in 0..block.count {
-        let written = written::frame(block.code, &mut block.random, block.n).frame;
+        let written = block.write_random().frame;
         let mut received = written.clone();
         damage(&mut block.random, block.n, &mut received);
         if block.random.once_in(4) {
@@ -197,16 +198,17 @@ pub fn random_bytes(block: &mut Block) {
 /// repaired to that other one.
 pub fn sixteen_bits(block: &mut Block) {
     let n = block.n;
+    let places = Places::new(n);
     for _ in 0..block.count {
         let lines = (
-            six_places(block.code, &mut block.random, n),
-            six_places(block.code, &mut block.random, n),
+            six_places(&places, &mut block.random, n),
+            six_places(&places, &mut block.random, n),
         );
         let (rows, columns) = match lines {
             (Some(rows), Some(columns)) => (rows, columns),
             _ => return,
         };
-        let written = written::frame(block.code, &mut block.random, n).frame;
+        let written = block.write_random().frame;
         let (mut received, mut other) = (written.clone(), written.clone());
         add_crossings(n, &mut received, &rows[..4], &columns[..4]);
         add_crossings(n, &mut other, &rows, &columns);

@@ -54,6 +54,13 @@ fn data_bit(block: &mut Block) {
     }
     let case = Case::new(&mut block.random, Entry::Encode, 18, vec![0x80], 54);
     block.check(case, Promise::Exactly(0, frame.clone()), &[]);
+    // The long division, too, knows this frame from those beside it.
+    block.divide(&[0x80], &frame, true);
+    for place in 0..8 * frame.len() {
+        let mut other = frame.clone();
+        flip(&mut other, place);
+        block.divide(&[0x80], &other, false);
+    }
     let case = Case::new(&mut block.random, Entry::Read, 18, frame, 1);
     block.check(case, Promise::Exactly(0, vec![0x80]), &[]);
 }

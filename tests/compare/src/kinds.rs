@@ -3,7 +3,7 @@
 use crate::bits::{LONGEST, SHORTEST};
 use crate::block::{Block, Kind};
 use crate::tally::Seen::{self, *};
-use crate::{data, frames, items, refusals, rows, words};
+use crate::{data, frames, items, knots, refusals, rows, words};
 
 const LENGTHS: usize = LONGEST - SHORTEST + 1;
 
@@ -27,12 +27,17 @@ fn whole(name: &'static str, least: u64, must_see: &'static [Seen], make: fn(&mu
     }
 }
 
+fn sum_over_lengths(cases: fn(usize) -> usize) -> u64 {
+    (SHORTEST..=LONGEST).map(cases).sum::<usize>() as u64
+}
+
 pub fn all() -> Vec<Kind> {
     let mut kinds = settled_word_kinds();
     kinds.extend(word_kinds());
     kinds.extend(data_kinds());
     kinds.extend(frame_kinds());
     kinds.extend(made_frame_kinds());
+    kinds.extend(six_ones_kinds());
     kinds.extend(refusal_kinds());
     kinds.push(Kind {
         lengths: 18..=18,
@@ -41,7 +46,7 @@ pub fn all() -> Vec<Kind> {
     kinds
 }
 
-const FOUR: &[Seen] = &[Codeword, OnePlace, TwoPlaces, Beyond];
+const FOUR: &[Seen] = &[Codeword, OnePlace, TwoPlaces, NoCodeword];
 
 /// Words whose answer document 01 settles.
 fn settled_word_kinds() -> Vec<Kind> {
@@ -57,7 +62,7 @@ fn settled_word_kinds() -> Vec<Kind> {
         },
         whole(
             "words, every one and two wrong places",
-            2_828_087,
+            sum_over_lengths(|n| n + n * (n - 1) / 2),
             &[OnePlace, TwoPlaces],
             words::every_place,
         ),
@@ -67,7 +72,7 @@ fn settled_word_kinds() -> Vec<Kind> {
             ..kind(
                 "words, wrong bits at places cut away",
                 400,
-                &[Beyond],
+                &[NoCodeword],
                 words::cut_away,
             )
         },
@@ -85,7 +90,7 @@ fn word_kinds() -> Vec<Kind> {
         kind(
             "words, random bytes and ones",
             1200,
-            &[TwoPlaces, Beyond],
+            &[TwoPlaces, NoCodeword],
             words::random,
         ),
         kind("words, spare bits set", 400, FOUR, words::spare_bits),
@@ -110,7 +115,7 @@ fn data_kinds() -> Vec<Kind> {
         kind("reading damaged frames", 60, &[Number6], data::read_damaged),
         whole(
             "rows, every row of a frame",
-            32_743,
+            sum_over_lengths(|n| n),
             &[Row],
             rows::every_row,
         ),
@@ -182,6 +187,12 @@ fn made_frame_kinds() -> Vec<Kind> {
             &[RepairedLate, StuckLate, Spent],
             frames::chains,
         ),
+    ]
+}
+
+/// Damage made of codewords with just six ones.
+fn six_ones_kinds() -> Vec<Kind> {
+    vec![
         Kind {
             lengths: 31..=256,
             least: 8 * 226,
@@ -190,6 +201,16 @@ fn made_frame_kinds() -> Vec<Kind> {
                 8,
                 &[WronglyRepaired, Spent],
                 frames::sixteen_bits,
+            )
+        },
+        Kind {
+            lengths: knots::LENGTHS,
+            least: 6 * 57,
+            ..kind(
+                "frames, passes that undo one another",
+                6,
+                &[Spent],
+                knots::knots,
             )
         },
     ]

@@ -1,6 +1,6 @@
 //! Runs every kind of check and counts each as passed or failed.
 //!
-//! `compare [--seed N] [--rounds N] [--quick]`
+//! `compare [--seed N] [--rounds N] [--quick]`: with --quick few cases, for tests/compare/planted.
 
 use compare::block::{run_kind, Scale};
 use compare::coverage::coverage;
@@ -11,20 +11,23 @@ use compare::{case::Entry, kinds};
 use second::Code;
 use std::process::exit;
 
+const FLAGS: &str = "--seed N and --rounds N for other and more cases, and --quick for few, as \
+                     tests/compare/planted wants them";
+
 fn main() {
     let scale = flags().unwrap_or_else(|wrong| {
-        eprintln!("{}: the flags are --seed N, --rounds N and --quick", wrong);
+        eprintln!("{}: the flags are {}", wrong, FLAGS);
         println!("0 passed, 1 failed");
         exit(1)
     });
     let code = Code::new();
     let (mut passed, mut failed) = (0, 0);
     let mut count = |fault: &str| {
-        *if fault.is_empty() {
-            &mut passed
+        if fault.is_empty() {
+            passed += 1;
         } else {
-            &mut failed
-        } += 1
+            failed += 1;
+        }
     };
     let (mut total, mut smallest) = (Tally::default(), Smallest::default());
     for kind in kinds::all() {

@@ -2,6 +2,7 @@
 
 use crate::bits::wrong_bits;
 use crate::case::{Case, Said};
+use crate::division::is_frame_of;
 
 pub enum Promise {
     None,
@@ -10,11 +11,18 @@ pub enum Promise {
     /// A frame with at most two rows that have three or more wrong bits: number 0, at most two
     /// passes, no bad rows or columns, and this output.
     Mended(Vec<u8>),
+    /// Number 0, and the frame of this n that has this data, by long division.
+    Encoded(usize, Vec<u8>),
 }
 
 impl Promise {
     pub fn refused(number: u64, case: &Case) -> Promise {
         Promise::Exactly(number, case.output.clone())
+    }
+
+    /// For encode, of data without spare bits set.
+    pub fn encoded(case: &Case) -> Promise {
+        Promise::Encoded(case.n, case.input.clone())
     }
 
     pub fn kept(&self, said: &Said) -> bool {
@@ -25,6 +33,7 @@ impl Promise {
                 let counts = said.result >> 32;
                 said.number() == 0 && said.passes() <= 2 && counts == 0 && said.output == *frame
             }
+            Promise::Encoded(n, data) => said.result == 0 && is_frame_of(*n, data, &said.output),
         }
     }
 
@@ -55,13 +64,13 @@ impl Promise {
                 Promise::Exactly(2 << 8 | first << 16 | second << 32, written.to_vec())
             }
             // Another codeword lies at least three away.
-            [_, _, _] => Promise::beyond(case),
+            [_, _, _] => Promise::no_codeword(case),
             _ => Promise::None,
         }
     }
 
     /// No codeword within two.
-    pub fn beyond(case: &Case) -> Promise {
+    pub fn no_codeword(case: &Case) -> Promise {
         Promise::Exactly(9, case.input.clone())
     }
 }

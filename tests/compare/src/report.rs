@@ -35,6 +35,10 @@ pub fn fault(kind: &Kind, tally: &Tally, scale: Scale) -> String {
     if tally.broken > 0 {
         faults.push(format!("{} promises not kept", grouped(tally.broken)));
     }
+    if tally.misjudged > 0 {
+        let count = grouped(tally.misjudged);
+        faults.push(format!("{} judged otherwise by long division", count));
+    }
     let least = if scale.quick {
         1
     } else {
@@ -94,7 +98,7 @@ fn said(case: &Case, said: &Said) -> String {
             "number {}, passes {}, flips {}, bad rows {}, bad columns {}",
             said.number(),
             said.passes(),
-            field(16, 16),
+            said.flips(),
             field(32, 16),
             field(48, 16)
         ),

@@ -28,7 +28,7 @@ pub enum Seen {
     Codeword,
     OnePlace,
     TwoPlaces,
-    Beyond,
+    NoCodeword,
     Encoded,
     Read,
     Row,
@@ -54,7 +54,10 @@ pub struct Tally {
     pub differences: u64,
     /// Promises that a side did not keep.
     pub broken: u64,
+    /// Written words and frames that are none by long division, and others that are.
+    pub misjudged: u64,
     pub most_passes: u64,
+    pub most_flips: u64,
     /// Bit a: a frame was decoded with allowance a.
     pub allowances: u64,
     pub lengths: [bool; LONGEST + 1],
@@ -70,7 +73,9 @@ impl Default for Tally {
             promises: 0,
             differences: 0,
             broken: 0,
+            misjudged: 0,
             most_passes: 0,
+            most_flips: 0,
             allowances: 0,
             lengths: [false; LONGEST + 1],
             seen: [0; KINDS],
@@ -117,7 +122,7 @@ impl Tally {
             (4, _) => self.see(Seen::Number4),
             (5, _) => self.see(Seen::Number5),
             (6, _) => self.see(Seen::Number6),
-            (9, _) => self.see(Seen::Beyond),
+            (9, _) => self.see(Seen::NoCodeword),
             _ => self.note_frame(case, said, written),
         }
     }
@@ -125,6 +130,7 @@ impl Tally {
     fn note_frame(&mut self, case: &Case, said: &Said, written: &[u8]) {
         let passes = said.passes();
         self.most_passes = self.most_passes.max(passes);
+        self.most_flips = self.most_flips.max(said.flips());
         if case.argument < 64 {
             self.allowances |= 1 << case.argument;
         }
@@ -152,7 +158,9 @@ impl Tally {
         self.promises += other.promises;
         self.differences += other.differences;
         self.broken += other.broken;
+        self.misjudged += other.misjudged;
         self.most_passes = self.most_passes.max(other.most_passes);
+        self.most_flips = self.most_flips.max(other.most_flips);
         self.allowances |= other.allowances;
         for (all, one) in self.lengths.iter_mut().zip(other.lengths) {
             *all |= one;

@@ -4,7 +4,6 @@ use crate::bits::{bit, bytes_for, flip, ones, spare_mask, xor, CHECK_BITS, LONGE
 use crate::block::Block;
 use crate::case::{Case, Entry};
 use crate::promise::Promise;
-use crate::written::{codeword, codeword_of};
 
 fn case(block: &mut Block, n: usize, received: Vec<u8>) -> Case {
     Case::new(&mut block.random, Entry::Word, n, received, bytes_for(n))
@@ -22,12 +21,13 @@ fn check_damaged(block: &mut Block, written: &[u8], wrong: &[usize], spare: u8) 
 
 /// A random codeword, or the one whose data is all zero or all ones.
 fn some_codeword(block: &mut Block) -> Vec<u8> {
-    let data = bytes_for(block.n - CHECK_BITS);
-    match block.random.below(6) {
-        0 => codeword_of(block.code, block.n, vec![0; data]),
-        1 => codeword_of(block.code, block.n, vec![0xff; data]),
-        _ => codeword(block.code, &mut block.random, block.n),
-    }
+    let bytes = bytes_for(block.n - CHECK_BITS);
+    let data = match block.random.below(6) {
+        0 => vec![0; bytes],
+        1 => vec![0xff; bytes],
+        _ => block.random.bytes(bytes),
+    };
+    block.write_word(block.n, data)
 }
 
 /// This block's share of all words of 18. There are two codewords, both known from document 01.
@@ -53,7 +53,7 @@ pub fn all_at_18(block: &mut Block) {
                 let wrong: Vec<usize> = (0..18).filter(|&place| bit(damage, place)).collect();
                 Promise::of_word(&case, codeword, &wrong)
             }
-            None => Promise::beyond(&case),
+            None => Promise::no_codeword(&case),
         };
         block.check(case, promise, &[]);
     }
@@ -62,7 +62,8 @@ pub fn all_at_18(block: &mut Block) {
 /// One codeword, with every one and every two places wrong.
 pub fn every_place(block: &mut Block) {
     let n = block.n;
-    let written = codeword(block.code, &mut block.random, n);
+    let data = block.random.bytes(bytes_for(n - CHECK_BITS));
+    let written = block.write_word(n, data);
     for first in 0..n {
         check_damaged(block, &written, &[first], 0);
         if block.quick && n > 40 {
@@ -102,7 +103,7 @@ pub fn cut_away(block: &mut Block) {
         for place in block.random.distinct(away.min(cut), cut) {
             flip(&mut data, place);
         }
-        let whole = codeword_of(block.code, LONGEST, data);
+        let whole = block.write_word(LONGEST, data);
         let mut received = vec![0; bytes_for(n)];
         for place in (0..n).filter(|place| bit(&whole, cut + place)) {
             flip(&mut received, place);
@@ -111,7 +112,7 @@ pub fn cut_away(block: &mut Block) {
             flip(&mut received, place);
         }
         let case = case(block, n, received);
-        let promise = Promise::beyond(&case);
+        let promise = Promise::no_codeword(&case);
         block.check(case, promise, &[]);
     }
 }

@@ -1,8 +1,9 @@
 //! Data, codewords and frames as they were before any damage.
 
 use crate::bits::{bytes_for, clear_spare_bits, flip, flip_at, square_bytes, xor, CHECK_BITS};
+use crate::division::Places;
 use crate::random::Random;
-use second::{Answer, Code};
+use second::Code;
 
 pub struct Written {
     pub data: Vec<u8>,
@@ -59,14 +60,10 @@ pub fn codeword(code: &Code, random: &mut Random, n: usize) -> Vec<u8> {
 }
 
 /// The places of the ones of a codeword with just six, or nothing if none was met.
-pub fn six_places(code: &Code, random: &mut Random, n: usize) -> Option<[usize; 6]> {
-    let mut word = vec![0; bytes_for(n)];
+pub fn six_places(places: &Places, random: &mut Random, n: usize) -> Option<[usize; 6]> {
     for _ in 0..100_000 {
         let four = random.distinct(4, n);
-        let mut received = vec![0; bytes_for(n)];
-        four.iter().for_each(|&place| flip(&mut received, place));
-        let answer = code.decode_word(n, &received, &mut word);
-        if let Ok(Answer::TwoPlaces(fifth, sixth)) = answer {
+        if let Some((fifth, sixth)) = places.other_two(&four) {
             return Some([four[0], four[1], four[2], four[3], fifth, sixth]);
         }
     }
