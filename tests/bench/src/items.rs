@@ -10,6 +10,8 @@ use second::Code;
 
 pub struct Item {
     pub name: &'static str,
+    /// Of the frames' random numbers.
+    pub seed: u64,
     /// A new case, on another random frame each time, and the answer it must get.
     pub make: fn(&Code, &mut Random) -> (Case, Promise),
 }
@@ -17,6 +19,7 @@ pub struct Item {
 pub const ITEMS: [Item; 5] = [
     Item {
         name: "decode, n = 195, 40 wrong bits",
+        seed: 1,
         make: |code, random| {
             decode(code, random, 195, |random, frame| {
                 wrong_bits(random, 195, frame, 40);
@@ -25,10 +28,12 @@ pub const ITEMS: [Item; 5] = [
     },
     Item {
         name: "decode, n = 195, clean",
+        seed: 2,
         make: |code, random| decode(code, random, 195, |_, _| {}),
     },
     Item {
         name: "decode, n = 256, two rows lost",
+        seed: 3,
         make: |code, random| {
             decode(code, random, 256, |random, frame| {
                 for i in random.distinct(2, 256) {
@@ -39,14 +44,17 @@ pub const ITEMS: [Item; 5] = [
     },
     Item {
         name: "encode, n = 195",
+        seed: 4,
         make: |code, random| {
             let written = random_frame(code, random, 195);
             let case = Case::new(random, Entry::Encode, 195, written.data, square_bytes(195));
-            (case, Promise::Exactly(0, written.frame))
+            let promise = Promise::encoded(&case);
+            (case, promise)
         },
     },
     Item {
         name: "read, n = 195",
+        seed: 5,
         make: |code, random| {
             let written = random_frame(code, random, 195);
             let bytes = written.data.len();

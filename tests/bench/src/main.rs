@@ -40,7 +40,11 @@ fn main() {
             }
         }
     }
-    println!("{}, {} frames for each line", processor(), FRAMES);
+    let (processor, compiler) = (processor(), env!("COMPILER"));
+    println!(
+        "{}, {}, {} frames for each line",
+        processor, compiler, FRAMES
+    );
     println!("0 passed, 0 failed");
 }
 

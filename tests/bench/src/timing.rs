@@ -28,7 +28,7 @@ impl Times {
 /// Times both sides on the same frames, each of them first in turn. Nothing is given if an answer
 /// is wrong.
 pub fn time(code: &Code, item: &Item, warm_up: usize, frames: usize) -> Option<(Times, Times)> {
-    let mut random = Random::new(&[1, item.name.len() as u64]);
+    let mut random = Random::new(&[item.seed]);
     let (mut proved, mut second) = (Vec::new(), Vec::new());
     for index in 0..warm_up + frames {
         let (case, promise) = (item.make)(code, &mut random);
