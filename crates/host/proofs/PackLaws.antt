@@ -7,7 +7,7 @@ use native.Mathlib.Omega.{arith}
 use lib.Bits.{bitOr, or-shifted-r}
 use lib.Pow.{shl-exact}
 use Rattle.rules.specs.Numbers.{Decoded, figuresOf}
-use Rattle.rules.specs.Packed.{packedFigures, Fits}
+use Rattle.rules.specs.Packed.{packedFigures, HasRoom}
 use Rattle.frame.specs.declared.decode.Ending.{Ending}
 use Rattle.frame.specs.declared.decode.Report.{Report}
 use Rattle.frame.specs.Said.{reportOf, figures, figuresFor}
@@ -19,25 +19,25 @@ above : (j k b a : ℕ) → j + k ≤ 64 → b < 2 ^ k → a < 2 ^ j → bitOr b
 above j k b a room hb ha = ap (bitOr b) (shl-exact j k 64 ha room) ∙ or-shifted-r a k b hb ∙ add-comm (a * 2 ^ k) b
 
 pub or-packed :
-    (n p f r c : ℕ) → Fits (valuesOf n p f r c)
-    → bitOr (bitOr (bitOr (bitOr n (p * 2 ^ 8 % 2 ^ 64)) (f * 2 ^ 16 % 2 ^ 64)) (r * 2 ^ 32 % 2 ^ 64)) (c * 2 ^ 48 % 2 ^ 64)
-    ≡ packedFigures (valuesOf n p f r c)
+    (k p f r c : ℕ) → HasRoom (valuesOf k p f r c)
+    → bitOr (bitOr (bitOr (bitOr k (p * 2 ^ 8 % 2 ^ 64)) (f * 2 ^ 16 % 2 ^ 64)) (r * 2 ^ 32 % 2 ^ 64)) (c * 2 ^ 48 % 2 ^ 64)
+    ≡ packedFigures (valuesOf k p f r c)
 unfolding packedFigures
-or-packed n p f r c h =
+or-packed k p f r c h =
     ap (λ x. bitOr (bitOr (bitOr x (f * 2 ^ 16 % 2 ^ 64)) (r * 2 ^ 32 % 2 ^ 64)) (c * 2 ^ 48 % 2 ^ 64))
-    (above 8 8 n p (omega arith) (h .number) (h .passes))
+    (above 8 8 k p (omega arith) (h .number) (h .passes))
     ∙ ap (λ x. bitOr (bitOr x (r * 2 ^ 32 % 2 ^ 64)) (c * 2 ^ 48 % 2 ^ 64))
-    (above 16 16 (n + p * 2 ^ 8) f (omega arith) (omega (arith, h .number, h .passes)) (h .flips))
+    (above 16 16 (k + p * 2 ^ 8) f (omega arith) (omega (arith, h .number, h .passes)) (h .flips))
     ∙ ap (λ x. bitOr x (c * 2 ^ 48 % 2 ^ 64))
-    (above 16 32 (n + p * 2 ^ 8 + f * 2 ^ 16) r (omega arith) (omega (arith, h .number, h .passes, h .flips)) (h .rows))
-    ∙ above 16 48 (n + p * 2 ^ 8 + f * 2 ^ 16 + r * 2 ^ 32) c (omega arith) (omega (arith, h .number, h .passes, h .flips, h .rows)) (h .columns)
+    (above 16 32 (k + p * 2 ^ 8 + f * 2 ^ 16) r (omega arith) (omega (arith, h .number, h .passes, h .flips)) (h .rows))
+    ∙ above 16 48 (k + p * 2 ^ 8 + f * 2 ^ 16 + r * 2 ^ 32) c (omega arith) (omega (arith, h .number, h .passes, h .flips, h .rows)) (h .columns)
 
 -- a report's values, by its ending
 module _ (r : Report) (e : Ending) (is : r .ending ≡ e) where
   here : figures r ≡ figuresFor e (r .passes) (r .flips) (r .rows) (r .columns)
   here = ap (λ x. figuresFor x (r .passes) (r .flips) (r .rows) (r .columns)) is
 
-  pub fits-here : Fits (figures r) → Fits (figuresFor e (r .passes) (r .flips) (r .rows) (r .columns))
+  pub fits-here : HasRoom (figures r) → HasRoom (figuresFor e (r .passes) (r .flips) (r .rows) (r .columns))
   fits-here h = rw here at h
 
   pub packed-here :
@@ -48,5 +48,5 @@ module _ (r : Report) (e : Ending) (is : r .ending ≡ e) where
 pub packed-said : (d : Decoded) (r : Report) (x : ℕ) → r ≡ reportOf d → x ≡ packedFigures (figures r) → x ≡ packedFigures (figuresOf d)
 packed-said d r x is q = q ∙ ap (λ y. packedFigures (figures y)) is ∙ ap packedFigures (figures-said d)
 
-pub fits-said : (d : Decoded) (r : Report) → r ≡ reportOf d → Fits (figuresOf d) → Fits (figures r)
+pub fits-said : (d : Decoded) (r : Report) → r ≡ reportOf d → HasRoom (figuresOf d) → HasRoom (figures r)
 fits-said d r is h = rw (is, figures-said d) h

@@ -2,12 +2,12 @@
 use frame::decode::Ending;
 use frame::decode::Report;
 ghost use mathlib.Core.Path.{_≡_};
-ghost use Rattle.rules.specs.Packed.{packedFigures, Fits};
+ghost use Rattle.rules.specs.Packed.{packedFigures, HasRoom};
 ghost use Rattle.frame.specs.Said.{figures};
 ghost use Rattle.host.specs.Calls.{valuesOf};
 
 fn pack(number: u32, passes: usize, flips: usize, rows: usize, columns: usize) -> u64
-    requires { ⌜ Fits (valuesOf number passes flips rows columns) ⌝ }
+    requires { ⌜ HasRoom (valuesOf number passes flips rows columns) ⌝ }
     ensures { λ r. ⌜ r ≡ packedFigures (valuesOf number passes flips rows columns) ⌝ }
 {
     (number as u64)
@@ -19,7 +19,7 @@ fn pack(number: u32, passes: usize, flips: usize, rows: usize, columns: usize) -
 
 // What is not given is zero: no rows and columns where it succeeded, and a refusal has its number alone.
 pub(crate) fn pack_report(r: Report) -> u64
-    requires { ⌜ Fits (figures r) ⌝ }
+    requires { ⌜ HasRoom (figures r) ⌝ }
     ensures { λ x. ⌜ x ≡ packedFigures (figures r) ⌝ }
 {
     let ending = r.ending;

@@ -7,7 +7,7 @@ unfoldable pub packedFigures : Figures → ℕ
 packedFigures f = f .number + f .passes * 2 ^ 8 + f .flips * 2 ^ 16 + f .rows * 2 ^ 32 + f .columns * 2 ^ 48
 
 -- every value has room
-pub record Fits (f : Figures) : Type 0 where
+pub record HasRoom (f : Figures) : Type 0 where
   pub number : f .number < 2 ^ 8
   pub passes : f .passes < 2 ^ 8
   pub flips : f .flips < 2 ^ 16

@@ -17,7 +17,7 @@ use Rattle.rules.specs.Frames.{Frame, Square, row, transposed, badRows, 
 use Rattle.rules.specs.Bits.{frameOf}
 use Rattle.rules.specs.Passes.{passRows, passColumns, differences, Ending, clean, repaired, stuck, spent, Outcome, decoded}
 use Rattle.rules.specs.Numbers.{Figures, refused, ended, told, figuresOf, decodeRefusals, decodeRefusal, decodeSaid}
-use Rattle.rules.specs.Packed.{packedFigures, unpackedFigures, Fits}
+use Rattle.rules.specs.Packed.{packedFigures, unpackedFigures, HasRoom}
 use Rattle.rules.proofs.Laws.Shape.{frameOf-square, transposed-square}
 use Rattle.rules.proofs.Laws.SearchLaws.{places-length}
 use Rattle.rules.proofs.Laws.PatternLaws.{Rising, pattern, changed-pattern}
@@ -31,9 +31,9 @@ use Rattle.rules.proofs.Promises.Passes.{after, changes, Ends, left, pa
 
 pub record Packs : Type 0 where
   -- whatever the arguments
-  pub fits : (n allowance : ℕ) (received output : List ℕ) → Fits (figuresOf (decodeSaid n allowance received output))
-  pub in-64-bits : (f : Figures) → Fits f → packedFigures f < 2 ^ 64
-  pub read-back : (f : Figures) → Fits f → unpackedFigures (packedFigures f) ≡ f
+  pub fits : (n allowance : ℕ) (received output : List ℕ) → HasRoom (figuresOf (decodeSaid n allowance received output))
+  pub in-64-bits : (f : Figures) → HasRoom f → packedFigures f < 2 ^ 64
+  pub read-back : (f : Figures) → HasRoom f → unpackedFigures (packedFigures f) ≡ f
   -- bench item C with allowance 1: number 8, 1 pass, 0 flips, 2 rows, 18 columns. In hex, 0012 0002 0000 01 08
   pub example :
       packedFigures (record { number = 8; passes = 1; flips = 0; rows = 2; columns = 18 }) ≡ 5066558170726664
@@ -129,26 +129,26 @@ decoded-few n a f h b some most s =
 
 values-fit :
     (k p f r c : ℕ) → k ≤ 8 → p ≤ 32 → f ≤ 16384 → r ≤ 256 → c ≤ 256
-    → Fits (record { number = k; passes = p; flips = f; rows = r; columns = c })
+    → HasRoom (record { number = k; passes = p; flips = f; rows = r; columns = c })
 values-fit k p f r c hk hp hf hr hc =
     record { number = omega arith; passes = omega arith; flips = omega arith; rows = omega arith; columns = omega arith }
 
-told-fits : (o : Outcome) → Few o → Fits (figuresOf (told o))
+told-fits : (o : Outcome) → Few o → HasRoom (figuresOf (told o))
 told-fits o k = go (o .ending) (o .passes) (o .flips) (o .rows) (o .columns) (k .passes) (k .flips) (k .rows) (k .columns)
   where
-    go : (e : Ending) (p f r c : ℕ) → p ≤ 32 → f ≤ 16384 → r ≤ 256 → c ≤ 256 → Fits (figuresOf (ended e p f r c))
+    go : (e : Ending) (p f r c : ℕ) → p ≤ 32 → f ≤ 16384 → r ≤ 256 → c ≤ 256 → HasRoom (figuresOf (ended e p f r c))
     go clean p f r c hp hf hr hc = values-fit 0 p f 0 0 (omega arith) hp hf (omega arith) (omega arith)
     go repaired p f r c hp hf hr hc = values-fit 0 p f 0 0 (omega arith) hp hf (omega arith) (omega arith)
     go stuck p f r c hp hf hr hc = values-fit 7 p f r c (omega arith) hp hf hr hc
     go spent p f r c hp hf hr hc = values-fit 8 p f r c (omega arith) hp hf hr hc
 
-refused-fits : (r : ℕ) → r ≤ 4 → Fits (figuresOf (refused r))
+refused-fits : (r : ℕ) → r ≤ 4 → HasRoom (figuresOf (refused r))
 refused-fits r h = values-fit r 0 0 0 0 (omega arith) (omega arith) (omega arith) (omega arith) (omega arith)
 
-said-fits : (n allowance : ℕ) (received output : List ℕ) → Fits (figuresOf (decodeSaid n allowance received output))
+said-fits : (n allowance : ℕ) (received output : List ℕ) → HasRoom (figuresOf (decodeSaid n allowance received output))
 unfolding decodeSaid decodeRefusal allIn
 said-fits n allowance received output =
-    at-either (λ d. Fits (figuresOf d)) (decodeRefusal n allowance received output) (told (decoded n allowance (frameOf n received)))
+    at-either (λ d. HasRoom (figuresOf d)) (decodeRefusal n allowance received output) (told (decoded n allowance (frameOf n received)))
     (refused (decodeRefusal n allowance received output))
     (λ z.
     let k = decode-accepts n allowance received output .0 z in
