@@ -18,3 +18,7 @@ pub mod Repair
 pub mod Limit
 -- Document 01's examples
 pub mod Bench
+-- The dump and its report
+pub mod Records
+pub mod Lines
+pub mod Reports

@@ -7,3 +7,5 @@ pub mod Passes
 pub mod Numbers
 pub mod Packed
 pub mod Damage
+pub mod Text
+pub mod Dump

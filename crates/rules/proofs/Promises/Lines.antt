@@ -1,0 +1,101 @@
+-- What the lines of a text are.
+-- Assumes nothing.
+use mathlib.Core.Path.{_≡_, refl, ap, ap₂, _∙_}
+use mathlib.Core.Logic.{_≢_, _⊎_, inl, inr}
+use mathlib.Core.List.{List, [], _∷_, _++_, append-assoc, cons-ne-nil}
+use Prim.Native.Nat.{ℕ}
+use native.Mathlib.Decide.{ℕ-discrete}
+use borrow.Author.Tests.{ne-eqb}
+use Rattle.algebra.specs.Sums.{All, AllN}
+use Rattle.rules.specs.Text.{Text, ascii, parted, lines}
+
+-- ---- The statement
+
+-- no LF, which is 10
+abbrev pub NoLF : Text → Type 0
+NoLF t = AllN (λ x. x ≢ 10) t
+
+-- "A line ends in LF"
+abbrev pub closed : List Text → Text
+closed [] = []
+closed (l ∷ ls) = l ++ ascii "\n" ++ closed ls
+
+pub record Lines : Type 0 where
+  -- "with nothing after the last LF there is no further line"
+  pub all-closed : (ls : List Text) → All NoLF ls → lines (closed ls) ≡ ls
+  -- "the last may lack it"
+  pub last-open :
+      (ls : List Text) (t : Text) → All NoLF ls → NoLF t → t ≢ [] → lines (closed ls ++ t) ≡ ls ++ (t ∷ [])
+  -- each text is one of these, so this is what its lines are
+  pub one-of-these :
+      (s : Text)
+      → ((ls : List Text) × All NoLF ls × (s ≡ closed ls))
+      ⊎ ((ls : List Text) × (t : Text) × All NoLF ls × NoLF t × (t ≢ []) × (s ≡ closed ls ++ t))
+  pub no-lf : (s : Text) → All NoLF (lines s)
+
+-- ---- The proof
+
+-- the first line, up to an LF
+lines-cut : (u t : Text) → NoLF u → lines (u ++ 10 ∷ t) ≡ u ∷ lines t
+unfolding lines
+lines-cut [] t h = refl
+lines-cut (x ∷ u) t h = ap₂ (λ b l. parted b x l) (ne-eqb x 10 (h .0)) (lines-cut u t (h .1))
+
+lines-open : (t : Text) → NoLF t → t ≢ [] → lines t ≡ t ∷ []
+unfolding lines
+lines-open [] h some = absurd (some refl)
+lines-open (x ∷ []) h some = ap (λ b. parted b x (lines [])) (ne-eqb x 10 (h .0))
+lines-open (x ∷ y ∷ t) h some =
+    ap₂ (λ b l. parted b x l) (ne-eqb x 10 (h .0)) (lines-open (y ∷ t) (h .1) (λ e. cons-ne-nil y t e))
+
+lines-closed : (ls : List Text) → All NoLF ls → lines (closed ls) ≡ ls
+unfolding lines
+lines-closed [] h = refl
+lines-closed (l ∷ ls) h =
+    ap lines (append-assoc l (10 ∷ []) (closed ls)) ∙ lines-cut l (closed ls) (h .0) ∙ ap (λ r. l ∷ r) (lines-closed ls (h .1))
+
+lines-last : (ls : List Text) (t : Text) → All NoLF ls → NoLF t → t ≢ [] → lines (closed ls ++ t) ≡ ls ++ (t ∷ [])
+lines-last [] t h k some = lines-open t k some
+lines-last (l ∷ ls) t h k some =
+    ap lines (append-assoc (l ++ 10 ∷ []) (closed ls) t ∙ append-assoc l (10 ∷ []) (closed ls ++ t))
+    ∙ lines-cut l (closed ls ++ t) (h .0)
+    ∙ ap (λ r. l ∷ r) (lines-last ls t (h .1) k some)
+
+abbrev Form : Text → Type 0
+Form s =
+    ((ls : List Text) × All NoLF ls × (s ≡ closed ls))
+    ⊎ ((ls : List Text) × (t : Text) × All NoLF ls × NoLF t × (t ≢ []) × (s ≡ closed ls ++ t))
+
+form-lf : (x : ℕ) (s : Text) → x ≡ 10 → Form s → Form (x ∷ s)
+form-lf x s e (inl (ls, h, is)) = inl ([] ∷ ls, (tt, h), ap₂ _∷_ e is)
+form-lf x s e (inr (ls, t, h, k, some, is)) = inr ([] ∷ ls, t, (tt, h), k, some, ap₂ _∷_ e is)
+
+form-other : (x : ℕ) (s : Text) → x ≢ 10 → Form s → Form (x ∷ s)
+form-other x s e (inl ([], h, is)) = inr ([], x ∷ [], tt, (e, tt), cons-ne-nil x [], ap (λ r. x ∷ r) is)
+form-other x s e (inl (l ∷ ls, h, is)) = inl ((x ∷ l) ∷ ls, ((e, h .0), h .1), ap (λ r. x ∷ r) is)
+form-other x s e (inr ([], t, h, k, some, is)) = inr ([], x ∷ t, tt, (e, k), cons-ne-nil x t, ap (λ r. x ∷ r) is)
+form-other x s e (inr (l ∷ ls, t, h, k, some, is)) = inr ((x ∷ l) ∷ ls, t, ((e, h .0), h .1), k, some, ap (λ r. x ∷ r) is)
+
+forms : (s : Text) → Form s
+forms [] = inl ([], tt, refl)
+forms (x ∷ s) = go (ℕ-discrete x 10) (forms s)
+  where
+    go : Dec (x ≡ 10) → Form s → Form (x ∷ s)
+    go (yes e) f = form-lf x s e f
+    go (no e) f = form-other x s e f
+
+all-last : (ls : List Text) (t : Text) → All NoLF ls → NoLF t → All NoLF (ls ++ (t ∷ []))
+all-last [] t h k = (k, tt)
+all-last (l ∷ ls) t h k = (h .0, all-last ls t (h .1) k)
+
+none-has : (s : Text) → Form s → All NoLF (lines s)
+none-has s (inl (ls, h, is)) = rw (is, lines-closed ls h) h
+none-has s (inr (ls, t, h, k, some, is)) = rw (is, lines-last ls t h k some) (all-last ls t h k)
+
+pub lines-promise : Lines
+lines-promise = record {
+  all-closed = lines-closed;
+  last-open = lines-last;
+  one-of-these = forms;
+  no-lf = λ s. none-has s (forms s);
+}

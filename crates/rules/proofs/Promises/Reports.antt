@@ -1,0 +1,238 @@
+-- The report: document 01's example, and what each line of a dump gives.
+-- Assumes nothing.
+use mathlib.Core.Path.{_≡_, refl, sym, ap, ap₂, _∙_}
+use mathlib.Core.Logic.{_≢_, _⊎_, inl, inr}
+use mathlib.Core.Bool.{Bool, true, false, not, _&&_, false≢true}
+use mathlib.Core.List.{List, [], _∷_, _++_, map, append-assoc}
+use Prim.Native.Nat.{ℕ, suc, _+_}
+use native.Mathlib.Nat.{zero-add}
+use native.Mathlib.Omega.{arith}
+use lib.Dec.{eqb}
+use lib.ListN.{length, getD}
+use borrow.Author.Tests.{eqb-true, eqb-false, eq-eqb, not-true}
+use Rattle.algebra.specs.Sums.{All}
+use Rattle.algebra.specs.Tables.{tab}
+use Rattle.algebra.proofs.TableLaws.{tab-zero, tab-suc, tab-ext}
+use Rattle.rules.specs.Bits.{frameOf}
+use Rattle.rules.specs.Passes.{clean, repaired, stuck, spent, decoded}
+use Rattle.rules.specs.Numbers.{pick, outside, notLong, notAllowed, frameBytes, Decoded, refused, ended, told, decodeRefusal, decodeSaid}
+use Rattle.rules.specs.Text.{Text, ascii, lines, every, digits, decimal}
+use Rattle.rules.specs.Dump.{header, same, Line, badLine, aRecord, lineOf, afterTabs, reportLine, goodHeader, badHeader, endingText, reported, recordText, lineText, reportFrom, underHeader, report}
+use Rattle.rules.proofs.Laws.OneOfLaws.{and-both}
+use Rattle.rules.proofs.Laws.TextLaws.{all-append, all-so, every-all, Digit, decimal-digits, tabbed}
+use Rattle.rules.proofs.Laws.Computing.{computing}
+use Rattle.rules.proofs.Promises.Lines.{NoLF}
+
+-- ---- The statement
+
+-- "Input: header; records 0 to 4 with the frames of bench items A, B, C, D at allowance 2, and one with n = 17; then an empty line
+-- closed by LF."
+abbrev pub Example : Type 0
+Example =
+    report (
+    ascii "frames\t1\n"
+    ++ ascii "0\t18\t2\t000000000000000000000000000000000000000000000000000000000000000000000000000000000000000000000000000000000000\n"
+    ++ ascii "1\t18\t2\tC00000000000000000000000000000000000000000000000000000000000000000000000000000000000000000000000000000000000\n"
+    ++ ascii "2\t18\t2\tFFFFC0FFFFC0000000000000000000000000000000000000000000000000000000000000000000000000000000000000000000000000\n"
+    ++ ascii "3\t18\t2\tE00000E00000E00000000000000000000000000000000000000000000000000000000000000000000000000000000000000000000000\n"
+    ++ ascii "4\t17\t2\t000000000000000000000000000000000000000000000000000000000000000000000000000000000000000000000000000000000000\n"
+    ++ ascii "\n"
+    )
+    ≡ ascii "repair\t1\n"
+    ++ ascii "0\tclean\t0\t0\t0\t0\n"
+    ++ ascii "1\trepaired\t1\t2\t0\t0\n"
+    ++ ascii "2\trepaired\t2\t36\t0\t0\n"
+    ++ ascii "3\tstuck\t2\t0\t3\t3\n"
+    ++ ascii "4\trefused\t1\t0\t0\t0\n"
+    ++ ascii "?\t7\n"
+
+-- the texts, one after the other
+abbrev pub joined : List Text → Text
+joined [] = []
+joined (t ∷ ts) = t ++ joined ts
+
+-- "Then one line a record: number, ending (`clean`, `repaired`, `stuck` or `spent`), passes, flips, rows, columns. Numbers 1, 2 and
+-- 4 give `refused`, the number, and three zeros."
+abbrev pub recordSays : ℕ → Decoded → Text
+recordSays number (refused r) = decimal number ++ ascii "\trefused\t" ++ decimal r ++ ascii "\t0\t0\t0\n"
+recordSays number (ended clean p f r c) = decimal number ++ ascii "\tclean\t" ++ decimal p ++ ascii "\t" ++ decimal f ++ ascii "\t0\t0\n"
+recordSays number (ended repaired p f r c) = decimal number ++ ascii "\trepaired\t" ++ decimal p ++ ascii "\t" ++ decimal f ++ ascii "\t0\t0\n"
+recordSays number (ended stuck p f r c) =
+    decimal number ++ ascii "\tstuck\t" ++ decimal p ++ ascii "\t" ++ decimal f ++ ascii "\t" ++ decimal r ++ ascii "\t" ++ decimal c ++ ascii "\n"
+recordSays number (ended spent p f r c) =
+    decimal number ++ ascii "\tspent\t" ++ decimal p ++ ascii "\t" ++ decimal f ++ ascii "\t" ++ decimal r ++ ascii "\t" ++ decimal c ++ ascii "\n"
+
+-- number 3 does not come: the buffer lent is as long as the frame
+abbrev pub RefusedBy : Decoded → Type 0
+RefusedBy (refused r) = (r ≡ 1) ⊎ ((r ≡ 2) ⊎ (r ≡ 4))
+RefusedBy (ended e p f r c) = Unit {0}
+
+pub record Reports : Type 0 where
+  pub example : Example
+  -- "The report's first line is `repair`, tab, `1`."; the line at index i after the header is line i + 2
+  pub numbered :
+      (input : Text) (later : List Text) → lines input ≡ ascii "frames\t1" ∷ later
+      → report input ≡ ascii "repair\t1\n" ++ joined (tab (length later) (λ i. lineText (i + 2) (lineOf (getD later i []))))
+  -- "With a bad or missing first line the whole report is `bad header`."
+  pub bad-header :
+      (input first : Text) (later : List Text) → lines input ≡ first ∷ later → first ≢ ascii "frames\t1"
+      → report input ≡ ascii "bad header\n"
+  pub no-header : (input : Text) → lines input ≡ [] → report input ≡ ascii "bad header\n"
+  -- "A bad line gives `?`, tab, its line number"
+  pub bad-line : (k : ℕ) → lineText k badLine ≡ ascii "?\t" ++ decimal k ++ ascii "\n"
+  -- with what decode says of the frame
+  pub good-line :
+      (k number n allowance : ℕ) (frame : List ℕ)
+      → lineText k (aRecord number n allowance frame) ≡ recordSays number (decodeSaid n allowance frame frame)
+  pub refusals : (n allowance : ℕ) (frame : List ℕ) → RefusedBy (decodeSaid n allowance frame frame)
+  -- "Every report line ends in LF", and each line gives one
+  pub one-line : (k : ℕ) (l : Line) → (t : Text) × NoLF t × (lineText k l ≡ t ++ ascii "\n")
+
+-- ---- The example: antt computes it
+
+shown : Example
+unfolding computing
+shown = refl
+
+-- ---- the header
+
+pub same-self : (s : Text) → same s s ≡ true
+unfolding same
+same-self [] = refl
+same-self (x ∷ s) = ap₂ _&&_ (eq-eqb x x refl) (same-self s)
+
+pub same-is : (s t : Text) → same s t ≡ true → s ≡ t
+unfolding same
+same-is [] [] h = refl
+same-is [] (y ∷ t) h = absurd (false≢true h)
+same-is (x ∷ s) [] h = absurd (false≢true h)
+same-is (x ∷ s) (y ∷ t) h = let k = and-both (eqb x y) (same s t) h in ap₂ _∷_ (eqb-true x y (k .0)) (same-is s t (k .1))
+
+header-bad : (input first : Text) (later : List Text) → lines input ≡ first ∷ later → first ≢ header → report input ≡ badHeader
+unfolding report
+header-bad input first later e h = ap underHeader e ∙ go (same first header) _ refl
+  where
+    go : (b : Bool) (t : Text) → same first header ≡ b → pick b t badHeader ≡ badHeader
+    go true t k = absurd (h (same-is first header k))
+    go false t k = refl
+
+header-none : (input : Text) → lines input ≡ [] → report input ≡ badHeader
+unfolding report
+header-none input e = ap underHeader e
+
+-- ---- the lines under it
+
+-- what line k and those after it give
+given : ℕ → List Text → ℕ → Text
+given k later i = lineText (i + k) (lineOf (getD later i []))
+
+given-first : (k : ℕ) (s : Text) (later : List Text) → given k (s ∷ later) 0 ≡ lineText k (lineOf s)
+unfolding given
+given-first k s later = ap (λ m. lineText m (lineOf s)) (zero-add k)
+
+given-next : (k : ℕ) (s : Text) (later : List Text) (i : ℕ) → given k (s ∷ later) (suc i) ≡ given (suc k) later i
+unfolding given
+given-next k s later i =
+    let e : suc i + k ≡ i + suc k = omega arith in ap (λ m. lineText m (lineOf (getD later i []))) e
+
+from-line : (k : ℕ) (later : List Text) → reportFrom k later ≡ joined (tab (length later) (given k later))
+unfolding reportFrom
+from-line k [] = sym (ap joined (tab-zero (given k [])))
+from-line k (s ∷ later) =
+    sym (ap joined (tab-suc (length later) (given k (s ∷ later)))
+    ∙ ap₂ _++_ (given-first k s later)
+    (ap joined (tab-ext (length later) (λ i. given k (s ∷ later) (suc i)) (given (suc k) later) (λ i h. given-next k s later i))
+    ∙ sym (from-line (suc k) later)))
+
+lines-numbered :
+    (input : Text) (later : List Text) → lines input ≡ header ∷ later
+    → report input ≡ goodHeader ++ joined (tab (length later) (given 2 later))
+unfolding report
+lines-numbered input later e =
+    ap underHeader e
+    ∙ ap (λ b. pick b (goodHeader ++ reportFrom 2 later) badHeader) (same-self header)
+    ∙ ap (λ t. goodHeader ++ t) (from-line 2 later)
+
+-- ---- one line
+
+says : (number : ℕ) (d : Decoded) → recordText number d ≡ recordSays number d
+unfolding digits
+says number (refused r) = simp append-assoc
+says number (ended clean p f r c) = simp append-assoc
+says number (ended repaired p f r c) = simp append-assoc
+says number (ended stuck p f r c) = simp append-assoc
+says number (ended spent p f r c) = simp append-assoc
+
+refused-by : (n allowance : ℕ) (frame : List ℕ) → RefusedBy (decodeSaid n allowance frame frame)
+unfolding decodeSaid decodeRefusal
+refused-by n allowance frame = go (outside n) (notLong frame (frameBytes n)) (notAllowed allowance)
+  where
+    r : Bool → Bool → Bool → ℕ
+    r a b c = pick a 1 (pick b 2 (pick b 3 (pick c 4 0)))
+
+    go : (a b c : Bool) → RefusedBy (pick (eqb (r a b c) 0) (told (decoded n allowance (frameOf n frame))) (refused (r a b c)))
+    go true b c = inl refl
+    go false true c = inr (inl refl)
+    go false false true = inr (inr refl)
+    go false false false = tt
+
+-- ---- one LF, at the end
+
+after-tabs : (fs : List Text) → afterTabs fs ≡ tabbed fs ++ ascii "\n"
+after-tabs [] = refl
+after-tabs (f ∷ fs) =
+    ap (λ t. 9 ∷ t) (ap (λ t. f ++ t) (after-tabs fs) ∙ sym (append-assoc f (tabbed fs) (ascii "\n")))
+
+tabbed-no-lf : (fs : List Text) → All NoLF fs → NoLF (tabbed fs)
+tabbed-no-lf [] h = tt
+tabbed-no-lf (f ∷ fs) h = (λ e. omega (arith, e), all-append (λ x. x ≢ 10) f (tabbed fs) (h .0) (tabbed-no-lf fs (h .1)))
+
+one-lf :
+    (f : Text) (fs : List Text) → NoLF f → All NoLF fs → (t : Text) × NoLF t × (reportLine f fs ≡ t ++ ascii "\n")
+one-lf f fs h k = (
+  f ++ tabbed fs,
+  all-append (λ x. x ≢ 10) f (tabbed fs) h (tabbed-no-lf fs k),
+  ap (λ t. f ++ t) (after-tabs fs) ∙ sym (append-assoc f (tabbed fs) (ascii "\n")),
+)
+
+decimal-no-lf : (x : ℕ) → NoLF (decimal x)
+decimal-no-lf x = all-so Digit (λ c. c ≢ 10) (λ c h e. omega (arith, h .0, e)) (decimal x) (decimal-digits x)
+
+decimals-no-lf : (xs : List ℕ) → All NoLF (map decimal xs)
+decimals-no-lf [] = tt
+decimals-no-lf (x ∷ xs) = (decimal-no-lf x, decimals-no-lf xs)
+
+-- a quoted text: to be computed
+quoted-no-lf : (t : Text) → every (λ x. not (eqb x 10)) t ≡ true → NoLF t
+quoted-no-lf t h =
+    all-so (λ x. not (eqb x 10) ≡ true) (λ x. x ≢ 10) (λ x k. eqb-false x 10 (not-true (eqb x 10) k)) t
+    (every-all (λ x. not (eqb x 10)) t h)
+
+ending-no-lf : (d : Decoded) → NoLF (endingText d)
+unfolding every
+ending-no-lf (refused r) = quoted-no-lf (ascii "refused") refl
+ending-no-lf (ended clean p f r c) = quoted-no-lf (ascii "clean") refl
+ending-no-lf (ended repaired p f r c) = quoted-no-lf (ascii "repaired") refl
+ending-no-lf (ended stuck p f r c) = quoted-no-lf (ascii "stuck") refl
+ending-no-lf (ended spent p f r c) = quoted-no-lf (ascii "spent") refl
+
+line-one-lf : (k : ℕ) (l : Line) → (t : Text) × NoLF t × (lineText k l ≡ t ++ ascii "\n")
+unfolding every
+line-one-lf k badLine = one-lf (ascii "?") (decimal k ∷ []) (quoted-no-lf (ascii "?") refl) (decimal-no-lf k, tt)
+line-one-lf k (aRecord number n allowance frame) =
+    let d : Decoded = decodeSaid n allowance frame frame in
+    one-lf (decimal number) (endingText d ∷ map decimal (reported d)) (decimal-no-lf number)
+    (ending-no-lf d, decimals-no-lf (reported d))
+
+pub reports : Reports
+unfolding given
+reports = record {
+  example = shown;
+  numbered = lines-numbered;
+  bad-header = header-bad;
+  no-header = header-none;
+  bad-line = λ k. refl;
+  good-line = λ k number n allowance frame. says number (decodeSaid n allowance frame frame);
+  refusals = refused-by;
+  one-line = line-one-lf;
+}
