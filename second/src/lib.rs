@@ -32,6 +32,7 @@
 
 mod answer;
 mod bits;
+pub mod dump;
 mod frame;
 mod matrix;
 mod word;

@@ -75,7 +75,7 @@ fn plain_pass(code: &Code, columns: bool, rows: &mut Vec<Vec<bool>>) -> usize {
 }
 
 /// Scattered bits, few or many; a crossing of rows and columns; both.
-fn damage(random: &mut Random, kind: usize, rows: &mut [Vec<bool>]) {
+pub fn damage(random: &mut Random, kind: usize, rows: &mut [Vec<bool>]) {
     let n = rows.len();
     let scattered = [0, n / 2, 3 * n, 0, n / 2][kind];
     for _ in 0..random.below(scattered + 1) {
@@ -92,7 +92,7 @@ fn damage(random: &mut Random, kind: usize, rows: &mut [Vec<bool>]) {
     }
 }
 
-fn set_spare_bits(random: &mut Random, n: usize, frame: &mut [u8]) {
+pub fn set_spare_bits(random: &mut Random, n: usize, frame: &mut [u8]) {
     let spare = (1u16 << ((8 - n % 8) % 8)) - 1;
     for row in frame.chunks_mut((n + 7) / 8) {
         *row.last_mut().unwrap() |= random.next() as u8 & spare as u8;

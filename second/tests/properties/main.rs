@@ -1,5 +1,6 @@
-//! Properties of words and frames, against a plain reading of the rules.
+//! Properties of words, frames and dumps, against a plain reading of the rules.
 
+mod dumps;
 mod frames;
 mod plain;
 mod words;
