@@ -1,0 +1,251 @@
+//! Lines that are bad by their form, each in one way.
+
+use crate::records::{self, hex, Maker};
+use crate::text::{Line, HEADER};
+
+/// A field that should be a decimal number of 1 to 9 digits.
+const DECIMALS: [&[u8]; 48] = [
+    b"",
+    b"00",
+    b"01",
+    b"02",
+    b"007",
+    b"018",
+    b"000000000",
+    b"000000001",
+    b"0000000018",
+    b"1000000000",
+    b"1234567890",
+    b"0000000000",
+    b"9999999999",
+    b"4294967296",
+    b"4294967314",
+    b"18446744073709551616",
+    b"18446744073709551634",
+    b"+1",
+    b"-1",
+    b"-0",
+    b"+0",
+    b" 1",
+    b"1 ",
+    b" ",
+    b"1 8",
+    b"1.",
+    b"1.0",
+    b".1",
+    b"1e1",
+    b"1,0",
+    b"1_8",
+    b"0x12",
+    b"12h",
+    b"A",
+    b"1A",
+    b"a",
+    b"F",
+    b"/",
+    b":",
+    b"1/",
+    b"1:",
+    b"/1",
+    b":1",
+    b"\0",
+    b"18\0",
+    b"\xb2",
+    b"1\xff",
+    "１８".as_bytes(),
+];
+
+/// A field that should be an even number of hex digits, all of them of upper case.
+const HEXES: [&[u8]; 40] = [
+    b"A",
+    b"0",
+    b"ABC",
+    b"000",
+    b"ab",
+    b"aB",
+    b"Ab",
+    b"0a",
+    b"f0",
+    b"0x00",
+    b"0X",
+    b"G0",
+    b"0G",
+    b"@0",
+    b"0@",
+    b"`0",
+    b"0`",
+    b"g0",
+    b"0g",
+    b"/0",
+    b"0/",
+    b":0",
+    b"0:",
+    b" 0",
+    b"0 ",
+    b"00 ",
+    b" 00",
+    b"0 0",
+    b"00  ",
+    b"-0",
+    b"+0",
+    b"\0\0",
+    b"0\0",
+    b"\r0",
+    b"00\r",
+    b"\x800",
+    b"0\xc1",
+    b"\xb00",
+    "Ａ0".as_bytes(),
+    b"00,00",
+];
+
+/// Whole lines.
+const LINES: [&[u8]; 34] = [
+    b"",
+    b" ",
+    b"\t",
+    b"\t\t",
+    b"\t\t\t",
+    b"\t\t\t\t",
+    b"\r",
+    b"\r\r",
+    b"\0",
+    b"\x0b",
+    b"\x0c",
+    b"\x1a",
+    b"\x7f",
+    b"?",
+    b"?\t2",
+    b"0",
+    b"0\t",
+    b"0\t18",
+    b"0\t18\t",
+    b"0\t18\t2",
+    b"0 18 2 ",
+    b"0\t18\t2\t\t",
+    b"0\t18\t2\t\r",
+    b"0\t18\t2\t\0",
+    b"0\t18\t2 ",
+    b"0\t18\t\t",
+    b"\t18\t2\t",
+    b"0\t\t2\t",
+    b"frames",
+    b"frames\t2",
+    b"repair\t1",
+    b"bad header",
+    b"\xef\xbb\xbf",
+    b"\xef\xbb\xbf0\t18\t2\t",
+];
+
+fn join(fields: &[&[u8]]) -> Vec<u8> {
+    fields.join(&b'\t')
+}
+
+/// The fields of a record that would end well, with letters in its frame.
+fn good_fields(maker: &mut Maker) -> [Vec<u8>; 4] {
+    let frame = records::written(maker, 24);
+    let number = records::number(&mut maker.random);
+    [number.to_string(), "24".into(), "2".into(), hex(&frame)].map(String::into_bytes)
+}
+
+/// One field wrong, the others good.
+fn in_a_field(maker: &mut Maker, lines: &mut Vec<Line>) {
+    let good = good_fields(maker);
+    let good: Vec<&[u8]> = good.iter().map(|field| &field[..]).collect();
+    for index in 0..3 {
+        for wrong in DECIMALS {
+            let mut fields = good.clone();
+            fields[index] = wrong;
+            lines.push(Line::bad(join(&fields)));
+        }
+        // A zero before a number that would do without it.
+        let zero = [b"0", good[index]].concat();
+        let mut fields = good.clone();
+        fields[index] = &zero;
+        lines.push(Line::bad(join(&fields)));
+    }
+    for wrong in HEXES {
+        lines.push(Line::bad(join(&[good[0], good[1], good[2], wrong])));
+        // The frame but for its first digits, or but for its last.
+        let (early, late) = (
+            [wrong, &good[3][2..]].concat(),
+            [&good[3][..good[3].len() - 2], wrong].concat(),
+        );
+        for hex in [early, late] {
+            lines.push(Line::bad(join(&[good[0], good[1], good[2], &hex])));
+        }
+    }
+    let lower = good[3].to_ascii_lowercase();
+    lines.push(Line::bad(join(&[good[0], good[1], good[2], &lower])));
+}
+
+/// Something more or less between good fields, or before or after them.
+fn between_fields(maker: &mut Maker, lines: &mut Vec<Line>) {
+    let good = good_fields(maker);
+    let good: Vec<&[u8]> = good.iter().map(|field| &field[..]).collect();
+    let whole = join(&good);
+    for count in 0..4 {
+        lines.push(Line::bad(join(&good[..count])));
+        lines.push(Line::bad(join(&good[4 - count..])));
+    }
+    for more in [
+        "\t", "\t0", "\t00", " ", "  ", "\r", "\0", "\u{feff}", "\u{a0}", "\u{85}", ";",
+    ] {
+        lines.push(Line::bad([&whole[..], more.as_bytes()].concat()));
+        lines.push(Line::bad([more.as_bytes(), &whole[..]].concat()));
+    }
+    for index in 0..3 {
+        let (left, right) = (join(&good[..=index]), join(&good[index + 1..]));
+        for part in [
+            "", " ", "  ", "\t\t", "\t ", " \t", ",", ";", "\r", "\t\r", "\\t", "\x0b",
+        ] {
+            lines.push(Line::bad([&left[..], part.as_bytes(), &right[..]].concat()));
+        }
+    }
+    lines.push(Line::bad(HEADER));
+}
+
+/// All ways, each once.
+pub fn all(maker: &mut Maker) -> Vec<Line> {
+    let mut lines: Vec<Line> = LINES.iter().map(|&text| Line::bad(text)).collect();
+    in_a_field(maker, &mut lines);
+    between_fields(maker, &mut lines);
+    lines
+}
+
+/// Every byte but LF in the place of one of a good line, and before it, where that makes the line
+/// bad. `place` counts over the line; those of the frame's middle are left out.
+pub fn every_byte_at(maker: &mut Maker, place: usize) -> Option<Vec<Line>> {
+    let frame = records::written(maker, 18);
+    let good = records::text(120, 18, 32, &frame);
+    let fields = good.len() - 2 * frame.len();
+    let places: Vec<usize> = (0..fields + 4)
+        .chain(good.len() - 3..good.len() + 1)
+        .collect();
+    let &place = places.get(place)?;
+    let in_frame = place >= fields;
+    let mut lines = Vec::new();
+    for byte in (0..=255).filter(|&byte| byte != b'\n') {
+        let digit = byte.is_ascii_digit();
+        let upper = digit || (b'A'..=b'F').contains(&byte);
+        if place < good.len()
+            && !(if in_frame {
+                upper
+            } else {
+                digit && good[place] != b'\t'
+            })
+        {
+            let mut text = good.clone();
+            text[place] = byte;
+            if text != good {
+                lines.push(Line::bad(text));
+            }
+        }
+        if in_frame || !digit {
+            let mut text = good.clone();
+            text.insert(place, byte);
+            lines.push(Line::bad(text));
+        }
+    }
+    Some(lines)
+}
