@@ -1,0 +1,69 @@
+-- What a line gives, as the code goes: the head, the digits, the frame's answer.
+-- Assumes nothing.
+use mathlib.Core.Path.{_≡_, sym, ap, subst, _∙_}
+use mathlib.Core.Bool.{Bool, true, false, not}
+use mathlib.Core.List.{List}
+use Prim.Native.Nat.{ℕ, _-_, _≤_}
+use native.Mathlib.Omega.{arith}
+use lib.ListN.{length, take, drop, length-drop}
+use lib.Seq.{take-all}
+use borrow.Author.Tests.{not-true, not-false}
+use Rattle.rules.specs.Numbers.{decodeSaid}
+use Rattle.rules.specs.Text.{Text, isHex, hexBytes}
+use Rattle.rules.specs.Dump.{Line, badLine, aRecord, longest, questioned, recordText, lineText, lineOf}
+use Rattle.frame.specs.declared.decode.Report.{Report}
+use Rattle.frame.specs.Said.{reportOf}
+use Rattle.dump.specs.declared.record.Head.{Head}
+use Rattle.dump.specs.Laid.{Lays}
+use Rattle.dump.specs.Read.{headOf}
+use Rattle.dump.specs.Told.{reportText}
+use Rattle.dump.proofs.RecordLaws.{line-bad-head, line-bad-frame, line-record}
+use Rattle.dump.proofs.ToldLaws.{report-said}
+
+-- the fourth field, as the code has it
+abbrev pub digitsAt : Text → ℕ → Text
+digitsAt s from = take (length s - from) (drop from s)
+
+digits-rest : (s : Text) (from : ℕ) → digitsAt s from ≡ drop from s
+digits-rest s from = take-all (length s - from) (drop from s) (omega (arith, length-drop from s))
+
+pub digits-short : (s : Text) (from : ℕ) → length s ≤ longest → length (digitsAt s from) ≤ longest
+digits-short s from h = omega (arith, ap length (digits-rest s from), length-drop from s)
+
+-- the test that the code made, of a part as the code has it
+pub hex-known : (x : Bool) (d : Text) → x ≡ isHex d → not x ≡ false → isHex d ≡ true
+hex-known x d q b = sym q ∙ not-false x b
+
+module _ (s : Text) (h : Head) (e : h ≡ headOf s) (k : ℕ) (out : List ℕ) (at r : ℕ) (exit : List ℕ) where
+  as-line : (l : Line) → lineOf s ≡ l → Lays out at (lineText k l) r exit → Lays out at (lineText k (lineOf s)) r exit
+  as-line l q = subst (λ (m : Line). Lays out at (lineText k m) r exit) (sym q)
+
+  pub head-questioned : not (h .«is_good») ≡ true → Lays out at (questioned k) r exit → Lays out at (lineText k (lineOf s)) r exit
+  head-questioned b = as-line badLine (line-bad-head s (ap (λ (x : Head). x .«is_good») (sym e) ∙ not-true _ b))
+
+  module _ (good : not (h .«is_good») ≡ false) (x : Bool) (q : x ≡ isHex (digitsAt s (h .frame))) where
+    good-head : headOf s .«is_good» ≡ true
+    good-head = ap (λ (y : Head). y .«is_good») (sym e) ∙ not-false _ good
+
+    hex-rest : isHex (drop (headOf s .frame) s) ≡ x
+    hex-rest = ap (λ (y : Head). isHex (drop (y .frame) s)) (sym e) ∙ sym (ap isHex (digits-rest s (h .frame))) ∙ sym q
+
+    pub frame-questioned : not x ≡ true → Lays out at (questioned k) r exit → Lays out at (lineText k (lineOf s)) r exit
+    frame-questioned b = as-line badLine (line-bad-frame s good-head (hex-rest ∙ not-true _ b))
+
+    -- what decoding the frame said is what the line reports
+    pub record-reported :
+        length s ≤ longest → not x ≡ false → (a : Report)
+        → a ≡ reportOf (decodeSaid (h .n) (h .allowance) (hexBytes (digitsAt s (h .frame))) (hexBytes (digitsAt s (h .frame))))
+        → Lays out at (reportText (h .number) a) r exit → Lays out at (lineText k (lineOf s)) r exit
+    record-reported short b a w l =
+        as-line
+        (aRecord (headOf s .number) (headOf s .n) (headOf s .allowance) (hexBytes (drop (headOf s .frame) s)))
+        (line-record s short good-head (hex-rest ∙ not-false _ b))
+        (subst (λ (t : Text). Lays out at t r exit)
+        (ap (reportText (h .number)) w
+        ∙ report-said (h .number)
+        (decodeSaid (h .n) (h .allowance) (hexBytes (digitsAt s (h .frame))) (hexBytes (digitsAt s (h .frame))))
+        ∙ ap (λ (d : Text). recordText (h .number) (decodeSaid (h .n) (h .allowance) (hexBytes d) (hexBytes d))) (digits-rest s (h .frame))
+        ∙ ap (λ (y : Head). recordText (y .number) (decodeSaid (y .n) (y .allowance) (hexBytes (drop (y .frame) s)) (hexBytes (drop (y .frame) s)))) e)
+        l)

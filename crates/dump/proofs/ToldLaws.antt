@@ -1,0 +1,57 @@
+-- A record's line, from the code's answer and from what the rules say.
+-- Assumes nothing.
+use mathlib.Core.Path.{_≡_, refl, sym, ap, subst, _∙_}
+use mathlib.Core.Bool.{not}
+use mathlib.Core.List.{List, [], _∷_}
+use Prim.Native.Nat.{ℕ}
+use lib.Dec.{eqb}
+use lib.ListN.{length}
+use Rattle.rules.specs.Bits.{frameOf}
+use Rattle.rules.specs.Passes as passes
+use Rattle.rules.specs.Passes.{decoded}
+use Rattle.rules.specs.Numbers.{Decoded, refused, ended, pick, first, outside, notLong, notAllowed, frameBytes, told, decodeRefusal, decodeSaid}
+use Rattle.rules.specs.Dump.{recordText}
+use Rattle.frame.specs.declared.decode.Ending.{Ending}
+use Rattle.frame.specs.declared.decode.Report.{Report}
+use Rattle.frame.specs.Said.{reportOf}
+use Rattle.dump.specs.Laid.{Lays}
+use Rattle.dump.specs.Told.{textFor, reportText}
+
+-- one ending's line is the report's, where that ended so
+pub told-here :
+    (r : Report) (e : Ending) → r .ending ≡ e → (number : ℕ) (s : List ℕ) (at x : ℕ) (exit : List ℕ)
+    → Lays s at (textFor number e (r .passes) (r .flips) (r .rows) (r .columns)) x exit → Lays s at (reportText number r) x exit
+told-here r e q number s at x exit =
+    subst (λ (d : Ending). Lays s at (textFor number d (r .passes) (r .flips) (r .rows) (r .columns)) x exit) (sym q)
+
+-- "number, ending, passes, flips, rows, columns", as the rules have it
+pub report-said : (number : ℕ) (d : Decoded) → reportText number (reportOf d) ≡ recordText number d
+report-said number (refused k) = refl
+report-said number (ended passes.clean p f r c) = refl
+report-said number (ended passes.repaired p f r c) = refl
+report-said number (ended passes.stuck p f r c) = refl
+report-said number (ended passes.spent p f r c) = refl
+
+-- the output matters to what is said by its length alone
+pub said-of-length :
+    (n allowance : ℕ) (input output output₂ : List ℕ) → length output ≡ length output₂
+    → decodeSaid n allowance input output ≡ decodeSaid n allowance input output₂
+unfolding decodeSaid decodeRefusal
+said-of-length n allowance input output output₂ h =
+    ap
+    (λ (l : ℕ).
+    let r : ℕ =
+    first
+    ((outside n, 1)
+    ∷ (notLong input (frameBytes n), 2)
+    ∷ (not (eqb l (frameBytes n)), 3)
+    ∷ (notAllowed allowance, 4)
+    ∷ []) in
+    pick (eqb r 0) (told (decoded n allowance (frameOf n input))) (refused r))
+    h
+
+pub said-of :
+    (n allowance : ℕ) (received mended frame : List ℕ) (r : Report) → r ≡ reportOf (decodeSaid n allowance received mended)
+    → received ≡ frame → length mended ≡ length frame → r ≡ reportOf (decodeSaid n allowance frame frame)
+said-of n allowance received mended frame r e p q =
+    e ∙ ap reportOf (ap (λ (x : List ℕ). decodeSaid n allowance x mended) p ∙ said-of-length n allowance frame mended frame q)

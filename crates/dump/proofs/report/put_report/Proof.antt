@@ -1,0 +1,125 @@
+use Rattle.dump.proofs.ToldLaws.{told-here}
+use Rattle.frame.specs.declared.decode.Ending.the-variants.{Clean, Repaired, Stuck, Spent, Refused}
+use mathlib.Core.Path.{_≡_, refl, sym, ap, _∙_}
+use mathlib.Core.Logic.{⊎-elim}
+use Prim.Native.Nat.{ℕ, zero, suc, _+_, _*_, _-_, _/_, _%_, _^_, _≤_, _<_}
+use native.Mathlib.Omega.{arith}
+use native.Mathlib.Numerals.{add-one}
+use lib.ListN.{length, getD}
+use borrow.Author.Needs.{needs}
+use Rattle.dump.proofs.report.put_report.Statement.{statement}
+use Rattle.dump.proofs.report.put_report.Tie as tie
+
+enum-told : tie.Need-enum-told
+enum-told c = search needs
+
+slice-aggregate-put-line : tie.Need-slice-aggregate-put-line
+slice-aggregate-put-line c = search needs
+
+put-line-requires : tie.Need-put-line-requires
+put-line-requires c κs = search needs
+
+enum-told-2 : tie.Need-enum-told-2
+enum-told-2 c = search needs
+
+slice-aggregate-put-line-2 : tie.Need-slice-aggregate-put-line-2
+slice-aggregate-put-line-2 c = search needs
+
+put-line-requires-2 : tie.Need-put-line-requires-2
+put-line-requires-2 c κs = search needs
+
+enum-told-3 : tie.Need-enum-told-3
+enum-told-3 c = search needs
+
+slice-aggregate-put-line-3 : tie.Need-slice-aggregate-put-line-3
+slice-aggregate-put-line-3 c = search needs
+
+put-line-requires-3 : tie.Need-put-line-requires-3
+put-line-requires-3 c κs = search needs
+
+enum-told-4 : tie.Need-enum-told-4
+enum-told-4 c = search needs
+
+slice-aggregate-put-line-4 : tie.Need-slice-aggregate-put-line-4
+slice-aggregate-put-line-4 c = search needs
+
+put-line-requires-4 : tie.Need-put-line-requires-4
+put-line-requires-4 c κs = search needs
+
+enum-known-ending : tie.Need-enum-known-ending
+enum-known-ending c = search needs
+
+slice-aggregate-put-line-5 : tie.Need-slice-aggregate-put-line-5
+slice-aggregate-put-line-5 c = search needs
+
+cast-put-line : tie.Need-cast-put-line
+cast-put-line c = search needs
+
+put-line-requires-5 : tie.Need-put-line-requires-5
+put-line-requires-5 c κs = search needs
+
+same-length : tie.Need-same-length
+same-length c = search needs
+
+returns : tie.Need-returns
+returns c =
+    let a = c .before .before .before .before .before .before .before .before .args in told-here (a .report) Clean (c .before .before .before .before .before .enum-told .given .1) (a .number) _ _ _ _ (c .before .before .put-line .ensures)
+
+same-length-2 : tie.Need-same-length-2
+same-length-2 c = search needs
+
+returns-2 : tie.Need-returns-2
+returns-2 c =
+    let a = c .before .before .before .before .before .before .before .before .args in told-here (a .report) Repaired (c .before .before .before .before .before .enum-told2 .given .1) (a .number) _ _ _ _ (c .before .before .put-line2 .ensures)
+
+same-length-3 : tie.Need-same-length-3
+same-length-3 c = search needs
+
+returns-3 : tie.Need-returns-3
+returns-3 c =
+    let a = c .before .before .before .before .before .before .before .before .args in told-here (a .report) Stuck (c .before .before .before .before .before .enum-told3 .given .1) (a .number) _ _ _ _ (c .before .before .put-line3 .ensures)
+
+same-length-4 : tie.Need-same-length-4
+same-length-4 c = search needs
+
+returns-4 : tie.Need-returns-4
+returns-4 c =
+    let a = c .before .before .before .before .before .before .before .before .args in told-here (a .report) Spent (c .before .before .before .before .before .enum-told4 .given .1) (a .number) _ _ _ _ (c .before .before .put-line4 .ensures)
+
+same-length-5 : tie.Need-same-length-5
+same-length-5 c = search needs
+
+returns-5 : tie.Need-returns-5
+returns-5 c =
+    let a = c .before .before .before .before .before .before .before .before .before .args in let g = c .before .before .before .before .before .before .ending .given in told-here (a .report) (Refused (g .0 .0)) (g .1) (a .number) _ _ _ _ (c .before .before .put-line5 .ensures)
+
+pub put-report-spec : {M : Type 1} → statement M
+put-report-spec =
+    tie.close
+    (tie.spec
+    enum-told
+    slice-aggregate-put-line
+    put-line-requires
+    enum-told-2
+    slice-aggregate-put-line-2
+    put-line-requires-2
+    enum-told-3
+    slice-aggregate-put-line-3
+    put-line-requires-3
+    enum-told-4
+    slice-aggregate-put-line-4
+    put-line-requires-4
+    enum-known-ending
+    slice-aggregate-put-line-5
+    cast-put-line
+    put-line-requires-5
+    same-length
+    returns
+    same-length-2
+    returns-2
+    same-length-3
+    returns-3
+    same-length-4
+    returns-4
+    same-length-5
+    returns-5)

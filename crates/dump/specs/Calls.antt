@@ -1,0 +1,31 @@
+-- The contracts of the calls that take a dump, each as one statement: the arguments, what the lent buffers held, what is
+-- returned, and what they hold then.
+use mathlib.Core.Path.{_≡_}
+use mathlib.Core.List.{List}
+use Prim.Native.Nat.{ℕ}
+use lib.ListN.{length}
+use Rattle.rules.specs.Text.{Text}
+use Rattle.dump.specs.declared.state.State.{State}
+use Rattle.dump.specs.declared.state.Step.{Step}
+use Rattle.dump.specs.declared.state.Taken.{Taken}
+use Rattle.dump.specs.Laid.{Lays}
+use Rattle.dump.specs.Stream.{stateAfter, lineAfter, textAfter, textAtEnd, Run, begun, fed}
+
+-- one byte: the state, the line buffer, and the text at place `at` of the lent one
+abbrev pub TakesByte : State → ℕ → List ℕ → List ℕ → ℕ → Step → List ℕ → List ℕ → Type 0
+TakesByte s x line out at r line-exit out-exit =
+    (r .state ≡ stateAfter s line x)
+    × (line-exit ≡ lineAfter s line x)
+    × Lays out at (textAfter s line x) (r .at) out-exit
+
+abbrev pub TakesPiece : State → Text → List ℕ → List ℕ → Taken → List ℕ → List ℕ → Type 0
+TakesPiece s piece line out r line-exit out-exit =
+    let e : Run = fed (length out) (begun s line) piece in
+    (r .state ≡ e .state)
+    × (r .taken ≡ e .taken)
+    × (line-exit ≡ e .line)
+    × Lays out 0 (e .text) (r .written) out-exit
+
+-- what is written at the end of the input
+abbrev pub Finishes : State → List ℕ → List ℕ → ℕ → List ℕ → Type 0
+Finishes s line out r out-exit = Lays out 0 (textAtEnd s line) r out-exit

@@ -1,0 +1,91 @@
+-- A dump taken byte by byte: what is kept, and what is handed out.
+use mathlib.Core.Path.{_≡_}
+use mathlib.Core.Bool.{Bool, true, false, not, _&&_}
+use mathlib.Core.List.{List, [], _∷_, _++_}
+use Prim.Native.Nat.{ℕ, suc, _+_, _-_, _≤_}
+use lib.Dec.{eqb, leb, ltb}
+use lib.ListN.{length, take, set, replicate}
+use Rattle.rules.specs.Numbers.{pick}
+use Rattle.rules.specs.Text.{Text, lf}
+use Rattle.rules.specs.Dump.{header, same, longest, goodHeader, badHeader, lineText, lineOf}
+use Rattle.dump.specs.declared.state.State.{State}
+use Rattle.dump.specs.declared.state.Taken.{Taken}
+use Rattle.dump.specs.Laid.{laid, Lays}
+use Rattle.dump.specs.Told.{lineRoom}
+
+-- line 1, with nothing read of it
+abbrev pub atStart : State
+atStart = record { number = 1; length = 0; ended = false }
+
+-- the line so far, from its length and the lent buffer; what did not fit into that stands as zeros
+abbrev pub held : ℕ → List ℕ → Text
+held long line = take long line ++ replicate (long - length line) 0
+
+-- what line k gives once it is whole
+abbrev pub closed : ℕ → Text → Text
+closed k s = pick (eqb k 1) (pick (same s header) goodHeader badHeader) (lineText k (lineOf s))
+
+-- the greatest line number of a machine word stays
+abbrev pub following : ℕ → ℕ
+following k = pick (ltb k 18446744073709551615) (suc k) k
+
+-- the line that just ended is the first, and is no header
+abbrev pub isBadHeader : State → List ℕ → Bool
+isBadHeader s line = eqb (s .number) 1 && not (same (held (s .length) line) header)
+
+abbrev pub nextLine : State → List ℕ → State
+nextLine s line = record {
+  number = following (s .number);
+  length = 0;
+  ended = isBadHeader s line;
+}
+
+-- one more character; a length past the longest line says that it is too long, and stays
+abbrev pub longer : State → State
+longer s = record { number = s .number; length = pick (leb (s .length) longest) (suc (s .length)) (s .length); ended = false }
+
+-- ---- After the byte x: the state, the lent line buffer, and the text handed out
+
+unfoldable pub stateAfter : State → List ℕ → ℕ → State
+stateAfter s line x = pick (s .ended) s (pick (eqb x lf) (nextLine s line) (longer s))
+
+unfoldable pub lineAfter : State → List ℕ → ℕ → List ℕ
+lineAfter s line x = pick (s .ended) line (pick (eqb x lf) line (set line (s .length) x))
+
+unfoldable pub textAfter : State → List ℕ → ℕ → Text
+textAfter s line x = pick (s .ended) [] (pick (eqb x lf) (closed (s .number) (held (s .length) line)) [])
+
+-- ---- At the end of the input: a line that lacks its LF, or the missing first one
+
+-- nothing after the last LF; where the first line is missing, that is the line that ends
+abbrev pub isBetween : State → Bool
+isBetween s = eqb (s .length) 0 && not (eqb (s .number) 1)
+
+unfoldable pub textAtEnd : State → List ℕ → Text
+textAtEnd s line =
+    pick (s .ended) [] (pick (isBetween s) [] (closed (s .number) (held (s .length) line)))
+
+-- ---- A piece
+
+-- the state, the line buffer, the text handed out so far and the bytes taken
+pub record Run : Type 0 where
+  pub state : State
+  pub line : List ℕ
+  pub text : Text
+  pub taken : ℕ
+
+abbrev pub begun : State → List ℕ → Run
+begun s line = record { state = s; line = line; text = []; taken = 0 }
+
+abbrev pub stepped : Run → ℕ → Run
+stepped r x = record {
+  state = stateAfter (r .state) (r .line) x;
+  line = lineAfter (r .state) (r .line) x;
+  text = r .text ++ textAfter (r .state) (r .line) x;
+  taken = suc (r .taken);
+}
+
+-- bytes are taken as long as the buffer for the text has room for one more line
+unfoldable pub fed : ℕ → Run → Text → Run
+fed room r [] = r
+fed room r (x ∷ piece) = pick (leb (length (r .text) + lineRoom) room) (fed room (stepped r x) piece) r

@@ -1,0 +1,105 @@
+// The desktop program: a dump from standard input, its report to standard output.
+use dump::state::State;
+use dump::state::finish;
+use dump::state::start;
+use dump::state::take_piece;
+use libc::STDERR_FILENO;
+use libc::STDIN_FILENO;
+use libc::STDOUT_FILENO;
+ghost use Prim.Native.Nat.{_≤_};
+ghost use lib.ListN.{length};
+
+// The state so far, whether there may be more to read, and whether all of the report so far could be written.
+struct Next {
+    state: State,
+    more: bool,
+    written: bool,
+}
+
+// Takes a whole piece, and writes the report as often as its buffer is full.
+fn report_piece(state: State, piece: &[u8], line: &mut [u8; 16414], out: &mut [u8]) -> Next
+    requires { ⌜ 128 ≤ length (now out) ⌝ }
+{
+    let mut current = state;
+    let mut from = 0;
+    while from < piece.len() {
+        let taken = take_piece(current, &piece[from..piece.len()], line, out);
+        let written = taken.written;
+        current = taken.state;
+        from += taken.taken;
+        if !io::write_all(STDOUT_FILENO, &out[0..written]) {
+            return Next {
+                state: current,
+                more: false,
+                written: false,
+            };
+        }
+    }
+    Next {
+        state: current,
+        more: true,
+        written: true,
+    }
+}
+
+// Reads once. A read that fails ends the input.
+fn report_some(state: State, line: &mut [u8; 16414], out: &mut [u8]) -> Next
+    requires { ⌜ 128 ≤ length (now out) ⌝ }
+{
+    let mut piece = [0u8; 8192];
+    let got = libc::read(STDIN_FILENO, &mut piece);
+    if got < 0 {
+        io::write_all(
+            STDERR_FILENO,
+            b"repair: reading failed: the report ends with what was read\n",
+        );
+    }
+    if got <= 0 {
+        return Next {
+            state: state,
+            more: false,
+            written: true,
+        };
+    }
+    let n = io::count(got, &piece);
+    report_piece(state, &piece[..n], line, out)
+}
+
+// A proved loop has to end: it counts down from a number of reads that no run uses up.
+fn report_all(line: &mut [u8; 16414], out: &mut [u8]) -> Next
+    requires { ⌜ 128 ≤ length (now out) ⌝ }
+{
+    let mut current = start();
+    let mut turns = u64::MAX;
+    while turns > 0 {
+        let next = report_some(current, line, out);
+        if !next.more {
+            return next;
+        }
+        current = next.state;
+        turns -= 1;
+    }
+    Next {
+        state: current,
+        more: true,
+        written: true,
+    }
+}
+
+fn main() {
+    let mut line = [0u8; 16414];
+    let mut out = [0u8; 4096];
+    let mut last = [0u8; 128];
+    let end = report_all(&mut line, &mut out);
+    let mut written = end.written;
+    if written {
+        let n = finish(end.state, &line, &mut last);
+        written = io::write_all(STDOUT_FILENO, &last[..n]);
+    }
+    if !written {
+        io::write_all(
+            STDERR_FILENO,
+            b"repair: writing failed: the report is not complete\n",
+        );
+    }
+}
