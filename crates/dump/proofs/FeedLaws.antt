@@ -1,18 +1,17 @@
 -- A piece taken byte by byte: the loop.
 -- Assumes nothing.
-use mathlib.Core.Path.{_≡_, refl, sym, ap, ap₂, _∙_}
+use mathlib.Core.Path.{_≡_, refl, sym, ap, _∙_}
 use mathlib.Core.Bool.{Bool, true, false}
 use mathlib.Core.List.{List, [], _∷_, _++_}
 use Prim.Native.Nat.{ℕ, suc, _+_, _-_, _≤_, _<_}
 use native.Mathlib.Numerals.{add-one}
 use native.Mathlib.Omega.{arith}
 use lib.Dec.{eqb, leb}
-use lib.ListN.{length, drop, getD, set, length-append, length-set, drop-of-length-le}
+use lib.ListN.{length, drop, getD, set, length-set, drop-of-length-le}
 use lib.Seq.{drop-cons}
 use borrow.Author.Tests.{le-leb, lt-leb}
 use Rattle.rules.specs.Numbers.{pick}
 use Rattle.rules.specs.Text.{Text, lf}
-use Rattle.rules.specs.Dump.{longest}
 use Rattle.dump.specs.declared.state.State.{State}
 use Rattle.dump.specs.declared.state.Step.{Step}
 use Rattle.dump.specs.declared.state.Taken.{Taken}
@@ -124,3 +123,39 @@ module _ {piece : Text} {s₀ : State} {line₀ out₀ : List ℕ} {s : State} {
             ∙ sym (fed-next (length out₀) (runOf s line (g .text) taken) piece taken h (omega (arith, some, g .so-far .0, g .so-far .1, g .room)))
             ∙ g .rest;
       }
+
+-- ---- how many bytes a call takes
+
+fed-least : (room : ℕ) (r : Run) (piece : Text) → r .taken ≤ fed room r piece .taken
+unfolding fed
+fed-least room r [] = omega arith
+fed-least room r (x ∷ piece) = go (leb (length (r .text) + lineRoom) room) (fed-least room (stepped r x) piece)
+  where
+    go : (b : Bool) → suc (r .taken) ≤ fed room (stepped r x) piece .taken → r .taken ≤ pick b (fed room (stepped r x) piece) r .taken
+    go true h = omega arith
+    go false h = omega arith
+
+fed-most : (room : ℕ) (r : Run) (piece : Text) → fed room r piece .taken ≤ r .taken + length piece
+unfolding fed
+fed-most room r [] = omega arith
+fed-most room r (x ∷ piece) = go (leb (length (r .text) + lineRoom) room) (fed-most room (stepped r x) piece)
+  where
+    go :
+        (b : Bool) → fed room (stepped r x) piece .taken ≤ suc (r .taken) + length piece
+        → pick b (fed room (stepped r x) piece) r .taken ≤ r .taken + suc (length piece)
+    go true h = omega arith
+    go false h = omega arith
+
+module _ (s : State) (piece : Text) (line out : List ℕ) (r : Taken) (line₁ out₁ : List ℕ) (t : TakesPiece s piece line out r line₁ out₁) where
+  pub piece-within : r .taken ≤ length piece
+  piece-within = omega (arith, t .1, fed-most (length out) (begun s line) piece)
+
+  -- with room for a line, at least one byte
+  pub piece-some : lineRoom ≤ length out → 0 < length piece → 0 < r .taken
+  piece-some room some =
+      omega (
+        arith,
+        t .1,
+        ap (λ (e : Run). e .taken) (fed-next (length out) (begun s line) piece 0 some room),
+        fed-least (length out) (stepped (begun s line) (getD piece 0 0)) (drop 1 piece),
+      )

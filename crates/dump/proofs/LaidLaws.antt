@@ -2,7 +2,7 @@
 -- Assumes nothing.
 use mathlib.Core.Path.{_≡_, refl, sym, ap, ap₂, _∙_}
 use mathlib.Core.List.{List, [], _∷_, _++_, append-assoc}
-use Prim.Native.Nat.{ℕ, suc, _+_, _^_, _≤_, _<_}
+use Prim.Native.Nat.{ℕ, _+_, _^_, _≤_, _<_}
 use native.Mathlib.Nat.{add-zero, add-assoc, lt-of-lt-of-le}
 use native.Mathlib.Numerals.{add-one}
 use native.Mathlib.Omega.{arith}
@@ -109,3 +109,6 @@ lays-then s at t u r r₂ s₁ s₂ a b =
 -- the number of a machine word has at most 20 digits
 pub digits-few : (x : ℕ) → x < 18446744073709551616 → length (decimal x) ≤ 20
 digits-few x h = decimal-short x 20 (lt-of-lt-of-le h (leb→le 18446744073709551616 (10 ^ 20) tt)) (omega arith)
+
+pub lays-length : (s : List ℕ) (at : ℕ) (t : Text) (r : ℕ) (exit : List ℕ) → Lays s at t r exit → length exit ≡ length s
+lays-length s at t r exit l = ap length (l .2) ∙ laid-length s at t (omega (arith, l .0, l .1))

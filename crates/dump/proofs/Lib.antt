@@ -11,3 +11,6 @@ pub mod LineLaws
 -- The state
 pub mod StateLaws
 pub mod FeedLaws
+-- The report, whatever the pieces
+pub mod RunLaws
+pub mod Pieces

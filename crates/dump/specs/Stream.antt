@@ -1,16 +1,13 @@
 -- A dump taken byte by byte: what is kept, and what is handed out.
-use mathlib.Core.Path.{_≡_}
-use mathlib.Core.Bool.{Bool, true, false, not, _&&_}
+use mathlib.Core.Bool.{Bool, false, not, _&&_}
 use mathlib.Core.List.{List, [], _∷_, _++_}
-use Prim.Native.Nat.{ℕ, suc, _+_, _-_, _≤_}
+use Prim.Native.Nat.{ℕ, suc, _+_, _-_}
 use lib.Dec.{eqb, leb, ltb}
 use lib.ListN.{length, take, set, replicate}
 use Rattle.rules.specs.Numbers.{pick}
 use Rattle.rules.specs.Text.{Text, lf}
 use Rattle.rules.specs.Dump.{header, same, longest, goodHeader, badHeader, lineText, lineOf}
 use Rattle.dump.specs.declared.state.State.{State}
-use Rattle.dump.specs.declared.state.Taken.{Taken}
-use Rattle.dump.specs.Laid.{laid, Lays}
 use Rattle.dump.specs.Told.{lineRoom}
 
 -- line 1, with nothing read of it

@@ -94,7 +94,7 @@ fn main() {
     let mut written = end.written;
     if written {
         let n = finish(end.state, &line, &mut last);
-        written = io::write_all(STDOUT_FILENO, &last[..n]);
+        written = io::write_all(STDOUT_FILENO, &last[0..n]);
     }
     if !written {
         io::write_all(

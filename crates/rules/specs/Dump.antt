@@ -4,7 +4,7 @@ use mathlib.Core.List.{List, [], _∷_, _++_, map}
 use Prim.Native.Nat.{ℕ, suc}
 use lib.Dec.{eqb, leb}
 use lib.ListN.{length, getD}
-use Rattle.rules.specs.Passes.{Ending, clean, repaired, stuck, spent}
+use Rattle.rules.specs.Passes.{clean, repaired, stuck, spent}
 use Rattle.rules.specs.Numbers.{pick, Decoded, refused, ended, Figures, figuresOf, decodeSaid}
 use Rattle.rules.specs.Text.{Text, ascii, lf, tabulator, lines, fields, isDecimal, value, decimal, isHex, hexBytes}
 

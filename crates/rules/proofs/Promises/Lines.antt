@@ -36,12 +36,12 @@ pub record Lines : Type 0 where
 -- ---- The proof
 
 -- the first line, up to an LF
-lines-cut : (u t : Text) → NoLF u → lines (u ++ 10 ∷ t) ≡ u ∷ lines t
+pub lines-cut : (u t : Text) → NoLF u → lines (u ++ 10 ∷ t) ≡ u ∷ lines t
 unfolding lines
 lines-cut [] t h = refl
 lines-cut (x ∷ u) t h = ap₂ (λ b l. parted b x l) (ne-eqb x 10 (h .0)) (lines-cut u t (h .1))
 
-lines-open : (t : Text) → NoLF t → t ≢ [] → lines t ≡ t ∷ []
+pub lines-open : (t : Text) → NoLF t → t ≢ [] → lines t ≡ t ∷ []
 unfolding lines
 lines-open [] h some = absurd (some refl)
 lines-open (x ∷ []) h some = ap (λ b. parted b x (lines [])) (ne-eqb x 10 (h .0))

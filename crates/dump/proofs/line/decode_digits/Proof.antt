@@ -1,9 +1,6 @@
-use mathlib.Core.Path.{_≡_, refl, sym, ap, _∙_}
-use mathlib.Core.Logic.{⊎-elim}
-use Prim.Native.Nat.{ℕ, zero, suc, _+_, _*_, _-_, _/_, _%_, _^_, _≤_, _<_}
+-- `dump::line::decode_digits` meets its contract.
+-- Assumes nothing.
 use native.Mathlib.Omega.{arith}
-use native.Mathlib.Numerals.{add-one}
-use lib.ListN.{length, getD}
 use borrow.Author.Needs.{needs}
 use Rattle.dump.proofs.line.decode_digits.Statement.{statement}
 use Rattle.dump.proofs.line.decode_digits.Tie as tie

@@ -1,12 +1,8 @@
+-- `dump::line::decode_into` meets its contract.
+-- Assumes nothing.
+use borrow.Author.Needs.{needs}
 use Rattle.dump.proofs.ReadLaws.{hex-part, hex-part-length}
 use Rattle.dump.proofs.ToldLaws.{said-of}
-use mathlib.Core.Path.{_≡_, refl, sym, ap, _∙_}
-use mathlib.Core.Logic.{⊎-elim}
-use Prim.Native.Nat.{ℕ, zero, suc, _+_, _*_, _-_, _/_, _%_, _^_, _≤_, _<_}
-use native.Mathlib.Omega.{arith}
-use native.Mathlib.Numerals.{add-one}
-use lib.ListN.{length, getD}
-use borrow.Author.Needs.{needs}
 use Rattle.dump.proofs.line.decode_into.Statement.{statement}
 use Rattle.dump.proofs.line.decode_into.Tie as tie
 

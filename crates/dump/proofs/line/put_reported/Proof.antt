@@ -1,11 +1,7 @@
-use Rattle.dump.proofs.LineLaws.{head-questioned, frame-questioned, record-reported, digits-short, hex-known}
-use mathlib.Core.Path.{_≡_, refl, sym, ap, _∙_}
-use mathlib.Core.Logic.{⊎-elim}
-use Prim.Native.Nat.{ℕ, zero, suc, _+_, _*_, _-_, _/_, _%_, _^_, _≤_, _<_}
-use native.Mathlib.Omega.{arith}
-use native.Mathlib.Numerals.{add-one}
-use lib.ListN.{length, getD}
+-- `dump::line::put_reported` meets its contract.
+-- Assumes nothing.
 use borrow.Author.Needs.{needs}
+use Rattle.dump.proofs.LineLaws.{head-questioned, frame-questioned, record-reported, digits-short, hex-known}
 use Rattle.dump.proofs.line.put_reported.Statement.{statement}
 use Rattle.dump.proofs.line.put_reported.Tie as tie
 

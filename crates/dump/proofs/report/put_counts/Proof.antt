@@ -1,11 +1,8 @@
-use Rattle.dump.proofs.LaidLaws.{lays-then, digits-few}
-use mathlib.Core.Path.{_≡_, refl, sym, ap, _∙_}
-use mathlib.Core.Logic.{⊎-elim}
-use Prim.Native.Nat.{ℕ, zero, suc, _+_, _*_, _-_, _/_, _%_, _^_, _≤_, _<_}
+-- `dump::report::put_counts` meets its contract.
+-- Assumes nothing.
 use native.Mathlib.Omega.{arith}
-use native.Mathlib.Numerals.{add-one}
-use lib.ListN.{length, getD}
 use borrow.Author.Needs.{needs}
+use Rattle.dump.proofs.LaidLaws.{lays-then, digits-few}
 use Rattle.dump.proofs.report.put_counts.Statement.{statement}
 use Rattle.dump.proofs.report.put_counts.Tie as tie
 
@@ -47,11 +44,6 @@ same-length c = search needs
 
 returns : tie.Need-returns
 returns c =
-    let f = c .before .before .before .before .before .before .before .before .before .before .before .before .before .before .before .before .before .before .before .before .before .before .fits in
-    let da = digits-few _ (f .a .fits) in
-    let db = digits-few _ (f .b .fits) in
-    let dc = digits-few _ (f .c .fits) in
-    let dd = digits-few _ (f .d .fits) in
     lays-then _ _ _ _ _ _ _ _ (c .before .before .before .before .before .before .before .before .before .before .before .before .before .before .before .before .before .before .before .put-decimal .ensures)
     (lays-then _ _ _ _ _ _ _ _ (c .before .before .before .before .before .before .before .before .before .before .before .before .before .before .before .put-count .ensures)
     (lays-then _ _ _ _ _ _ _ _ (c .before .before .before .before .before .before .before .before .before .before .before .put-count2 .ensures)

@@ -1,11 +1,8 @@
-use Rattle.dump.proofs.LaidLaws.{lays-then, digits-few}
-use mathlib.Core.Path.{_≡_, refl, sym, ap, _∙_}
-use mathlib.Core.Logic.{⊎-elim}
-use Prim.Native.Nat.{ℕ, zero, suc, _+_, _*_, _-_, _/_, _%_, _^_, _≤_, _<_}
+-- `dump::report::put_questioned` meets its contract.
+-- Assumes nothing.
 use native.Mathlib.Omega.{arith}
-use native.Mathlib.Numerals.{add-one}
-use lib.ListN.{length, getD}
 use borrow.Author.Needs.{needs}
+use Rattle.dump.proofs.LaidLaws.{lays-then, digits-few}
 use Rattle.dump.proofs.report.put_questioned.Statement.{statement}
 use Rattle.dump.proofs.report.put_questioned.Tie as tie
 
@@ -31,7 +28,6 @@ same-length c = search needs
 
 returns : tie.Need-returns
 returns c =
-    let d = digits-few _ (c .before .before .before .before .before .before .before .before .before .before .before .before .before .before .before .fits .number .fits) in
     lays-then _ _ _ _ _ _ _ _ (c .before .before .before .before .before .before .before .before .before .before .before .put .ensures)
     (lays-then _ _ _ _ _ _ _ _ (c .before .before .before .before .before .before .before .put-count .ensures) (c .before .before .put2 .ensures))
 

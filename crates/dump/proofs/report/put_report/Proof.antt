@@ -1,12 +1,8 @@
-use Rattle.dump.proofs.ToldLaws.{told-here}
-use Rattle.frame.specs.declared.decode.Ending.the-variants.{Clean, Repaired, Stuck, Spent, Refused}
-use mathlib.Core.Path.{_≡_, refl, sym, ap, _∙_}
-use mathlib.Core.Logic.{⊎-elim}
-use Prim.Native.Nat.{ℕ, zero, suc, _+_, _*_, _-_, _/_, _%_, _^_, _≤_, _<_}
-use native.Mathlib.Omega.{arith}
-use native.Mathlib.Numerals.{add-one}
-use lib.ListN.{length, getD}
+-- `dump::report::put_report` meets its contract: each ending has its word and its counts.
+-- Assumes nothing.
 use borrow.Author.Needs.{needs}
+use Rattle.frame.specs.declared.decode.Ending.the-variants.{Clean, Repaired, Stuck, Spent, Refused}
+use Rattle.dump.proofs.ToldLaws.{told-here}
 use Rattle.dump.proofs.report.put_report.Statement.{statement}
 use Rattle.dump.proofs.report.put_report.Tie as tie
 

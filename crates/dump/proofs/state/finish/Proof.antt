@@ -1,11 +1,8 @@
-use Rattle.dump.proofs.StateLaws.{lays-as, lays-none, end-ended, end-none, end-line}
-use mathlib.Core.Path.{_≡_, refl, sym, ap, _∙_}
-use mathlib.Core.Logic.{⊎-elim}
-use Prim.Native.Nat.{ℕ, zero, suc, _+_, _*_, _-_, _/_, _%_, _^_, _≤_, _<_}
-use native.Mathlib.Omega.{arith}
-use native.Mathlib.Numerals.{add-one}
-use lib.ListN.{length, getD}
+-- `dump::state::finish` meets its contract.
+-- Assumes nothing.
+use mathlib.Core.Path.{sym, _∙_}
 use borrow.Author.Needs.{needs}
+use Rattle.dump.proofs.StateLaws.{lays-as, lays-none, end-ended, end-none, end-line}
 use Rattle.dump.proofs.state.finish.Statement.{statement}
 use Rattle.dump.proofs.state.finish.Tie as tie
 

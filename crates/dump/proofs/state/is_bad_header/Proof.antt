@@ -1,11 +1,7 @@
-use Rattle.dump.proofs.StateLaws.{bad-header-not, bad-header-so}
-use mathlib.Core.Path.{_≡_, refl, sym, ap, _∙_}
-use mathlib.Core.Logic.{⊎-elim}
-use Prim.Native.Nat.{ℕ, zero, suc, _+_, _*_, _-_, _/_, _%_, _^_, _≤_, _<_}
-use native.Mathlib.Omega.{arith}
-use native.Mathlib.Numerals.{add-one}
-use lib.ListN.{length, getD}
+-- `dump::state::is_bad_header` meets its contract.
+-- Assumes nothing.
 use borrow.Author.Needs.{needs}
+use Rattle.dump.proofs.StateLaws.{bad-header-not, bad-header-so}
 use Rattle.dump.proofs.state.is_bad_header.Statement.{statement}
 use Rattle.dump.proofs.state.is_bad_header.Tie as tie
 

@@ -1,12 +1,9 @@
+-- `dump::state::put_closed` meets its contract.
+-- Assumes nothing.
+use lib.ListN.{length}
+use borrow.Author.Needs.{needs}
 use Rattle.dump.proofs.StateLaws.{lays-as, closed-first, closed-over, closed-kept}
 use Rattle.dump.specs.Stream.{held}
-use mathlib.Core.Path.{_≡_, refl, sym, ap, _∙_}
-use mathlib.Core.Logic.{⊎-elim}
-use Prim.Native.Nat.{ℕ, zero, suc, _+_, _*_, _-_, _/_, _%_, _^_, _≤_, _<_}
-use native.Mathlib.Omega.{arith}
-use native.Mathlib.Numerals.{add-one}
-use lib.ListN.{length, getD}
-use borrow.Author.Needs.{needs}
 use Rattle.dump.proofs.state.put_closed.Statement.{statement}
 use Rattle.dump.proofs.state.put_closed.Tie as tie
 

@@ -1,12 +1,8 @@
-use Rattle.dump.proofs.StateLaws.{lays-as, picked-true, picked-false}
-use Rattle.rules.specs.Dump.{goodHeader, badHeader}
-use mathlib.Core.Path.{_≡_, refl, sym, ap, _∙_}
-use mathlib.Core.Logic.{⊎-elim}
-use Prim.Native.Nat.{ℕ, zero, suc, _+_, _*_, _-_, _/_, _%_, _^_, _≤_, _<_}
-use native.Mathlib.Omega.{arith}
-use native.Mathlib.Numerals.{add-one}
-use lib.ListN.{length, getD}
+-- `dump::state::put_header` meets its contract.
+-- Assumes nothing.
 use borrow.Author.Needs.{needs}
+use Rattle.rules.specs.Dump.{goodHeader, badHeader}
+use Rattle.dump.proofs.StateLaws.{lays-as, picked-true, picked-false}
 use Rattle.dump.proofs.state.put_header.Statement.{statement}
 use Rattle.dump.proofs.state.put_header.Tie as tie
 

@@ -1,11 +1,8 @@
-use Rattle.dump.proofs.StateLaws.{lays-as, lays-none, after-ended, after-lf, after-other}
-use mathlib.Core.Path.{_≡_, refl, sym, ap, _∙_}
-use mathlib.Core.Logic.{⊎-elim}
-use Prim.Native.Nat.{ℕ, zero, suc, _+_, _*_, _-_, _/_, _%_, _^_, _≤_, _<_}
-use native.Mathlib.Omega.{arith}
-use native.Mathlib.Numerals.{add-one}
-use lib.ListN.{length, getD}
+-- `dump::state::step_at` meets its contract.
+-- Assumes nothing.
+use mathlib.Core.Path.{_∙_}
 use borrow.Author.Needs.{needs}
+use Rattle.dump.proofs.StateLaws.{lays-as, lays-none, after-ended, after-lf, after-other}
 use Rattle.dump.proofs.state.step_at.Statement.{statement}
 use Rattle.dump.proofs.state.step_at.Tie as tie
 

@@ -1,9 +1,8 @@
-use mathlib.Core.Path.{_≡_, refl, sym, ap, _∙_}
-use mathlib.Core.Logic.{⊎-elim}
-use Prim.Native.Nat.{ℕ, zero, suc, _+_, _*_, _-_, _/_, _%_, _^_, _≤_, _<_}
+-- `dump::state::take_bytes` meets its contract. The loop's invariant: what is left to take from here is the whole answer.
+-- Assumes nothing.
+use Prim.Native.Nat.{_-_}
 use native.Mathlib.Omega.{arith}
-use native.Mathlib.Numerals.{add-one}
-use lib.ListN.{length, getD}
+use lib.ListN.{length}
 use borrow.Author.Needs.{needs}
 use Rattle.dump.proofs.FeedLaws.{Feeding, feeding-none, feeding-full, feeding-next, feeding-all}
 use Rattle.dump.proofs.state.take_bytes.Statement.{statement}

@@ -1,14 +1,12 @@
-use mathlib.Core.Path.{_≡_, refl, sym, ap, _∙_}
-use mathlib.Core.Logic.{⊎-elim}
-use Prim.Native.Nat.{ℕ, zero, suc, _+_, _*_, _-_, _/_, _%_, _^_, _≤_, _<_}
-use native.Mathlib.Omega.{arith}
-use native.Mathlib.Numerals.{add-one}
-use lib.ListN.{length, getD}
-use borrow.Author.Needs.{needs}
-use Rattle.dump.proofs.DecimalLaws.{digit-room, digit-laid, digits-room, digits-laid}
+-- `dump::write::put_decimal` meets its contract. It calls itself with one digit less: the measure is the number.
+-- Assumes nothing.
+use Prim.Native.Nat.{ℕ, _+_, _<_}
 use Prim.Native.Nat.{ℕ, _<_}
+use native.Mathlib.Omega.{arith}
+use borrow.Author.Needs.{needs}
 use borrow.Fn.Kinds.{In}
 use borrow.Fn.PlainCycle.{Measures, is, falls, and}
+use Rattle.dump.proofs.DecimalLaws.{digit-room, digit-laid, digits-room, digits-laid}
 use Rattle.dump.proofs.write.put_decimal.Reads as put-decimal
 use Rattle.dump.proofs.write.put_decimal.Kinds as put-decimal-kinds
 use Rattle.dump.proofs.write.+put_decimal.Lts-put_decimal as put-decimal-lts

@@ -1,11 +1,8 @@
-use mathlib.Core.Path.{_≡_, refl, sym, ap, _∙_}
-use mathlib.Core.Logic.{⊎-elim}
-use Prim.Native.Nat.{ℕ, zero, suc, _+_, _*_, _-_, _/_, _%_, _^_, _≤_, _<_}
-use native.Mathlib.Omega.{arith}
-use native.Mathlib.Numerals.{add-one}
-use lib.ListN.{length, take, getD}
-use Rattle.dump.proofs.LaidLaws.{Laying, laying-none, laying-next, laying-all}
+-- `dump::write::put` meets its contract. The loop's invariant: the first i bytes of the text are laid.
+-- Assumes nothing.
+use Prim.Native.Nat.{_-_}
 use borrow.Author.Needs.{needs}
+use Rattle.dump.proofs.LaidLaws.{Laying, laying-none, laying-next, laying-all}
 use Rattle.dump.proofs.write.put.Statement.{statement}
 use Rattle.dump.proofs.write.put.Tie as tie
 

@@ -1,11 +1,7 @@
-use Rattle.dump.proofs.LaidLaws.{lays-then}
-use mathlib.Core.Path.{_≡_, refl, sym, ap, _∙_}
-use mathlib.Core.Logic.{⊎-elim}
-use Prim.Native.Nat.{ℕ, zero, suc, _+_, _*_, _-_, _/_, _%_, _^_, _≤_, _<_}
-use native.Mathlib.Omega.{arith}
-use native.Mathlib.Numerals.{add-one}
-use lib.ListN.{length, getD}
+-- `dump::write::put_count` meets its contract.
+-- Assumes nothing.
 use borrow.Author.Needs.{needs}
+use Rattle.dump.proofs.LaidLaws.{lays-then}
 use Rattle.dump.proofs.write.put_count.Statement.{statement}
 use Rattle.dump.proofs.write.put_count.Tie as tie
 
