@@ -15,11 +15,11 @@ use Rattle.rules.specs.Text.{Text, lf}
 use Rattle.dump.specs.declared.state.State.{State}
 use Rattle.dump.specs.declared.state.Step.{Step}
 use Rattle.dump.specs.declared.state.Taken.{Taken}
-use Rattle.dump.specs.Laid.{laid, Lays}
+use Rattle.text.specs.Laid.{laid, Lays}
 use Rattle.dump.specs.Told.{lineRoom}
 use Rattle.dump.specs.Stream.{stateAfter, lineAfter, textAfter, Run, begun, stepped, fed}
 use Rattle.dump.specs.Calls.{TakesByte, TakesPiece}
-use Rattle.dump.proofs.LaidLaws.{laid-none, laid-length, lays-then}
+use Rattle.text.proofs.LaidLaws.{laid-none, laid-length, lays-then}
 
 abbrev runOf : State → List ℕ → Text → ℕ → Run
 runOf s line text taken = record { state = s; line = line; text = text; taken = taken }

@@ -13,11 +13,11 @@ use Rattle.rules.specs.Text.{Text, isHex, hexBytes}
 use Rattle.rules.specs.Dump.{Line, badLine, aRecord, longest, questioned, recordText, lineText, lineOf}
 use Rattle.frame.specs.declared.decode.Report.{Report}
 use Rattle.frame.specs.Said.{reportOf}
-use Rattle.dump.specs.declared.record.Head.{Head}
-use Rattle.dump.specs.Laid.{Lays}
-use Rattle.dump.specs.Read.{headOf}
+use Rattle.text.specs.declared.record.Head.{Head}
+use Rattle.text.specs.Laid.{Lays}
+use Rattle.text.specs.Read.{headOf}
 use Rattle.dump.specs.Told.{reportText}
-use Rattle.dump.proofs.RecordLaws.{line-bad-head, line-bad-frame, line-record}
+use Rattle.text.proofs.RecordLaws.{line-bad-head, line-bad-frame, line-record}
 use Rattle.dump.proofs.ToldLaws.{report-said}
 
 -- the fourth field, as the code has it

@@ -15,7 +15,7 @@ use Rattle.rules.specs.Dump.{longest, report}
 use Rattle.dump.specs.declared.state.State.{State}
 use Rattle.dump.specs.declared.state.Step.{Step}
 use Rattle.dump.specs.declared.state.Taken.{Taken}
-use Rattle.dump.specs.Laid.{laid, Lays}
+use Rattle.text.specs.Laid.{laid, Lays}
 use Rattle.dump.specs.Told.{lineRoom}
 use Rattle.dump.specs.Stream.{atStart, stateAfter, lineAfter, textAfter, textAtEnd, Run, begun, stepped, fed}
 use Rattle.dump.specs.Calls.{TakesByte, TakesPiece, Finishes}

@@ -18,8 +18,8 @@ use Rattle.rules.specs.Dump.{header, same, longest, Line, badLine, aRecord, que
 use Rattle.rules.proofs.Promises.Records.{WrittenAs, records}
 use Rattle.rules.proofs.Promises.Reports.{same-self, same-is}
 use Rattle.dump.specs.declared.state.State.{State}
-use Rattle.dump.specs.Laid.{Lays}
-use Rattle.dump.proofs.LaidLaws.{laid-none}
+use Rattle.text.specs.Laid.{Lays}
+use Rattle.text.proofs.LaidLaws.{laid-none}
 use Rattle.dump.specs.Stream.{held, closed, following, isBadHeader, nextLine, longer, isBetween, stateAfter, lineAfter, textAfter, textAtEnd}
 
 pub following-more : (k : ℕ) → k < 18446744073709551615 → k + 1 ≡ following k

@@ -14,7 +14,7 @@ use Rattle.rules.specs.Dump.{recordText}
 use Rattle.frame.specs.declared.decode.Ending.{Ending}
 use Rattle.frame.specs.declared.decode.Report.{Report}
 use Rattle.frame.specs.Said.{reportOf}
-use Rattle.dump.specs.Laid.{Lays}
+use Rattle.text.specs.Laid.{Lays}
 use Rattle.dump.specs.Told.{textFor, reportText}
 
 -- one ending's line is the report's, where that ended so

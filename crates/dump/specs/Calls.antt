@@ -8,7 +8,7 @@ use Rattle.rules.specs.Text.{Text}
 use Rattle.dump.specs.declared.state.State.{State}
 use Rattle.dump.specs.declared.state.Step.{Step}
 use Rattle.dump.specs.declared.state.Taken.{Taken}
-use Rattle.dump.specs.Laid.{Lays}
+use Rattle.text.specs.Laid.{Lays}
 use Rattle.dump.specs.Stream.{stateAfter, lineAfter, textAfter, textAtEnd, Run, begun, fed}
 
 -- one byte: the state, the line buffer, and the text at place `at` of the lent one

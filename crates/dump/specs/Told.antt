@@ -7,7 +7,7 @@ use Rattle.frame.specs.declared.decode.Ending.{Ending}
 use Rattle.frame.specs.declared.decode.Ending.the-variants.{Clean, Repaired, Stuck, Spent, Refused}
 use Rattle.frame.specs.declared.decode.Report.{Report}
 
--- the room that any line of a report has in a buffer: six numbers of 20 digits, and more than the longest word
+-- the room that is kept for a line of the report; five numbers of 20 digits and the longest word take 114
 abbrev pub lineRoom : ℕ
 lineRoom = 128
 

@@ -1,8 +1,4 @@
 // A dump in pieces of any size, its report line by line.
-pub mod hex;
-pub mod line;
-pub mod number;
-pub mod record;
-pub mod report;
+mod line;
+mod report;
 pub mod state;
-pub mod write;

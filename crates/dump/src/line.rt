@@ -1,11 +1,11 @@
 // What a line gives in the report.
-use crate::hex::bytes_of;
-use crate::hex::is_hex;
-use crate::record::record_head;
 use crate::report::put_questioned;
 use crate::report::put_report;
 use frame::decode::Report;
 use frame::decode::decode;
+use text::hex::bytes_of;
+use text::hex::is_hex;
+use text::record::record_head;
 ghost use mathlib.Core.Path.{_≡_};
 ghost use mathlib.Core.Bool.{true};
 ghost use Prim.Native.Nat.{_+_, _/_, _≤_};
@@ -14,7 +14,7 @@ ghost use Rattle.rules.specs.Numbers.{decodeSaid};
 ghost use Rattle.rules.specs.Text.{isHex, hexBytes};
 ghost use Rattle.rules.specs.Dump.{longest, lineText, lineOf};
 ghost use Rattle.frame.specs.Said.{reportOf};
-ghost use Rattle.dump.specs.Laid.{Lays};
+ghost use Rattle.text.specs.Laid.{Lays};
 ghost use Rattle.dump.specs.Told.{lineRoom};
 
 // Half the longest line: the bytes of any frame that a line can hold.

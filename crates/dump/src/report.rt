@@ -1,14 +1,14 @@
 // Lines of the report.
-use crate::write::put;
-use crate::write::put_count;
-use crate::write::put_decimal;
-use crate::write::put_word;
 use frame::decode::Ending;
 use frame::decode::Report;
+use text::write::put;
+use text::write::put_count;
+use text::write::put_decimal;
+use text::write::put_word;
 ghost use Prim.Native.Nat.{_+_, _≤_};
 ghost use lib.ListN.{length};
 ghost use Rattle.rules.specs.Dump.{questioned};
-ghost use Rattle.dump.specs.Laid.{Lays};
+ghost use Rattle.text.specs.Laid.{Lays};
 ghost use Rattle.dump.specs.Told.{lineRoom, fourCounts, wordAndCounts, reportText};
 
 pub(crate) fn put_questioned(out: &mut [u8], at: usize, number: usize) -> usize

@@ -1,13 +1,13 @@
 // A dump taken byte by byte, or in pieces of any size.
 use crate::line::put_reported;
 use crate::report::put_questioned;
-use crate::write::put;
+use text::write::put;
 ghost use mathlib.Core.Path.{_≡_};
 ghost use Prim.Native.Nat.{_+_, _≤_};
 ghost use lib.ListN.{length, set};
 ghost use Rattle.rules.specs.Numbers.{pick};
 ghost use Rattle.rules.specs.Dump.{header, same, longest, goodHeader, badHeader};
-ghost use Rattle.dump.specs.Laid.{Lays};
+ghost use Rattle.text.specs.Laid.{Lays};
 ghost use Rattle.dump.specs.Told.{lineRoom};
 ghost use Rattle.dump.specs.Stream.{atStart, held, closed, following, isBadHeader, nextLine, longer, isBetween};
 ghost use Rattle.dump.specs.Calls.{TakesByte, TakesPiece, Finishes};

@@ -2,7 +2,7 @@
 -- Assumes nothing.
 use native.Mathlib.Omega.{arith}
 use borrow.Author.Needs.{needs}
-use Rattle.dump.proofs.LaidLaws.{lays-length}
+use Rattle.text.proofs.LaidLaws.{lays-length}
 use Rattle.repair.proofs.main.Statement.{statement}
 use Rattle.repair.proofs.main.Tie as tie
 

@@ -1,7 +1,7 @@
 -- `dump::line::decode_into` meets its contract.
 -- Assumes nothing.
 use borrow.Author.Needs.{needs}
-use Rattle.dump.proofs.ReadLaws.{hex-part, hex-part-length}
+use Rattle.text.proofs.ReadLaws.{hex-part, hex-part-length}
 use Rattle.dump.proofs.ToldLaws.{said-of}
 use Rattle.dump.proofs.line.decode_into.Statement.{statement}
 use Rattle.dump.proofs.line.decode_into.Tie as tie

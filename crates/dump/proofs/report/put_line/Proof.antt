@@ -2,7 +2,7 @@
 -- Assumes nothing.
 use native.Mathlib.Omega.{arith}
 use borrow.Author.Needs.{needs}
-use Rattle.dump.proofs.LaidLaws.{lays-then, digits-few}
+use Rattle.text.proofs.LaidLaws.{lays-then, digits-few}
 use Rattle.dump.proofs.report.put_line.Statement.{statement}
 use Rattle.dump.proofs.report.put_line.Tie as tie
 

@@ -1,0 +1,7 @@
+-- Texts laid into a buffer
+pub mod LaidLaws
+pub mod DecimalLaws
+-- A line's fields
+pub mod ReadLaws
+pub mod FieldLaws
+pub mod RecordLaws

@@ -1,0 +1,54 @@
+-- What the functions that read a line answer, in the code's own types.
+use mathlib.Core.Bool.{Bool, true, false, _&&_}
+use mathlib.Core.List.{[], _∷_}
+use Prim.Native.Nat.{ℕ, _+_, _*_}
+use lib.Dec.{ltb}
+use lib.ListN.{length, take, drop}
+use Rattle.bytes.specs.Bytes.{indexOf}
+use Rattle.rules.specs.Numbers.{pick}
+use Rattle.rules.specs.Text.{Text, tabulator, isDigit, digitValue, isDecimal, value}
+use Rattle.text.specs.declared.number.Decimal.{Decimal}
+use Rattle.text.specs.declared.number.Decimal.the-variants.{Value, Bad}
+use Rattle.text.specs.declared.record.Field.{Field}
+use Rattle.text.specs.declared.record.Head.{Head}
+
+abbrev pub numberOf : Text → Decimal
+numberOf s = pick (isDecimal s) (Value (value s)) Bad
+
+-- v and then the digits of s
+unfoldable pub digitsOf : ℕ → Text → Decimal
+digitsOf v [] = Value v
+digitsOf v (x ∷ s) = pick (isDigit x) (digitsOf (v * 10 + digitValue x) s) Bad
+
+-- the number that starts at a place and is closed by a tab
+abbrev pub closedNumber : Text → ℕ → Bool
+closedNumber s from =
+    let rest : Text = drop from s in let i : ℕ = indexOf tabulator rest in ltb i (length rest) && isDecimal (take i rest)
+
+abbrev pub badField : Field
+badField = record { «is_good» = false; value = 0; after = 0 }
+
+unfoldable pub fieldOf : Text → ℕ → Field
+fieldOf s from =
+    let rest : Text = drop from s in
+    let i : ℕ = indexOf tabulator rest in
+    pick (closedNumber s from) (record { «is_good» = true; value = value (take i rest); after = from + i + 1 }) badField
+
+abbrev pub badHead : Head
+badHead = record { «is_good» = false; number = 0; n = 0; allowance = 0; frame = 0 }
+
+-- three fields, each after the one before
+unfoldable pub headOf : Text → Head
+headOf s =
+    let number : Field = fieldOf s 0 in
+    let n : Field = fieldOf s (number .after) in
+    let allowance : Field = fieldOf s (n .after) in
+    pick (number .«is_good» && n .«is_good» && allowance .«is_good»)
+    (record {
+      «is_good» = true;
+      number = number .value;
+      n = n .value;
+      allowance = allowance .value;
+      frame = allowance .after;
+    })
+    badHead

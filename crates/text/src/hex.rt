@@ -1,0 +1,63 @@
+// A frame in upper-case hex.
+ghost use mathlib.Core.Path.{_≡_};
+ghost use mathlib.Core.Bool.{true};
+ghost use Prim.Native.Nat.{_*_, _/_, _≤_, _<_};
+ghost use lib.ListN.{length};
+ghost use Rattle.rules.specs.Text.{isHexDigit, hexValue, isHex, hexBytes};
+ghost use Rattle.text.specs.Laid.{laid};
+
+fn is_hex_digit(x: u8) -> bool
+    ensures { λ r. ⌜ r ≡ isHexDigit x ⌝ }
+{
+    if x < b'0' {
+        return false;
+    }
+    if x <= b'9' {
+        return true;
+    }
+    if x < b'A' {
+        return false;
+    }
+    x <= b'F'
+}
+
+fn hex_value(x: u8) -> u8
+    requires { ⌜ isHexDigit x ≡ true ⌝ }
+    ensures { λ r. ⌜ (r ≡ hexValue x) × (r < 16) ⌝ }
+{
+    if x >= b'A' {
+        return x - 55;
+    }
+    x - b'0'
+}
+
+// An even number of digits, possibly none.
+pub fn is_hex(s: &[u8]) -> bool
+    ensures { λ r. ⌜ r ≡ isHex (now (s .entry)) ⌝ }
+{
+    if s.len() % 2 != 0 {
+        return false;
+    }
+    for i in 0..s.len() {
+        if !is_hex_digit(s[i]) {
+            return false;
+        }
+    }
+    true
+}
+
+// Puts the bytes at the start of the lent buffer and returns how many they are.
+pub fn bytes_of(digits: &[u8], frame: &mut [u8]) -> usize
+    requires { ⌜ isHex (now digits) ≡ true ⌝ }
+    requires { ⌜ length (now digits) / 2 ≤ length (now frame) ⌝ }
+    ensures { λ r. ⌜ r ≡ length (now (digits .entry)) / 2 ⌝ }
+    ensures { λ _. ⌜ now (frame .exit) ≡ laid (now (frame .entry)) 0 (hexBytes (now (digits .entry))) ⌝ }
+{
+    let bytes = digits.len() / 2;
+    for i in 0..bytes {
+        let high = hex_value(digits[2 * i]);
+        let low = hex_value(digits[2 * i + 1]);
+        frame[i] = high * 16 + low;
+    }
+    bytes
+}

@@ -1,0 +1,5 @@
+// Texts in lent buffers: digits, hex and fields read, words and numbers written.
+pub mod hex;
+pub mod number;
+pub mod record;
+pub mod write;

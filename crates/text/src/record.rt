@@ -1,0 +1,89 @@
+// The fields of a record.
+use crate::number::Decimal;
+use crate::number::number;
+use bytes::scan::find;
+ghost use mathlib.Core.Path.{_≡_};
+ghost use Prim.Native.Nat.{_≤_};
+ghost use lib.ListN.{length};
+ghost use Rattle.text.specs.Read.{fieldOf, headOf, badHead};
+
+// A number closed by a tab; `after` is the place after the tab.
+struct Field {
+    is_good: bool,
+    value: usize,
+    after: usize,
+}
+
+// The three numbers that open a record; the frame's digits begin at the place `frame`.
+pub struct Head {
+    pub is_good: bool,
+    pub number: usize,
+    pub n: usize,
+    pub allowance: usize,
+    pub frame: usize,
+}
+
+fn number_field(line: &[u8], from: usize) -> Field
+    requires { ⌜ from ≤ length (now line) ⌝ }
+    ensures { λ r. ⌜ r ≡ fieldOf (now (line .entry)) from ⌝ }
+    ensures { λ r. ⌜ r .after ≤ length (now (line .entry)) ⌝ }
+{
+    let end = find(line, from, line.len(), b'\t');
+    if end >= line.len() {
+        return Field {
+            is_good: false,
+            value: 0,
+            after: 0,
+        };
+    }
+    match number(&line[from..end]) {
+        Decimal::Value(value) => Field {
+            is_good: true,
+            value: value,
+            after: end + 1,
+        },
+        Decimal::Bad => Field {
+            is_good: false,
+            value: 0,
+            after: 0,
+        },
+    }
+}
+
+// Where a field is bad, the record is, and no value is given.
+pub fn record_head(line: &[u8]) -> Head
+    ensures { λ r. ⌜ r ≡ headOf (now (line .entry)) ⌝ }
+    ensures { λ r. ⌜ r .frame ≤ length (now (line .entry)) ⌝ }
+{
+    let number = number_field(line, 0);
+    let n = number_field(line, number.after);
+    let allowance = number_field(line, n.after);
+    if !number.is_good {
+        return bad_head();
+    }
+    if !n.is_good {
+        return bad_head();
+    }
+    if !allowance.is_good {
+        return bad_head();
+    }
+    Head {
+        is_good: true,
+        number: number.value,
+        n: n.value,
+        allowance: allowance.value,
+        frame: allowance.after,
+    }
+}
+
+fn bad_head() -> Head
+    ensures { λ r. ⌜ r ≡ badHead ⌝ }
+{
+    Head {
+        is_good: false,
+        number: 0,
+        n: 0,
+        allowance: 0,
+        frame: 0,
+    }
+}
