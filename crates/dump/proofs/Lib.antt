@@ -7,3 +7,4 @@ pub mod FeedLaws
 -- The report, whatever the pieces
 pub mod RunLaws
 pub mod Pieces
+pub mod Determined

@@ -1,5 +1,6 @@
 -- The report, whatever the pieces: for every input and every way of cutting it, what the calls hand out, in order, is the
--- report of the whole input.
+-- report of the whole input. That there are such calls for every input and every cutting is what the functions' proofs say: each
+-- returns whatever it is given, and a call that is lent room for a line takes at least one byte.
 -- Assumes nothing.
 use mathlib.Core.Path.{_≡_, refl, ap, ap₂, _∙_}
 use mathlib.Core.Bool.{Bool, true, false}

@@ -13,10 +13,10 @@ ghost use Rattle.dump.specs.Stream.{atStart, held, closed, following, is
 ghost use Rattle.dump.specs.Calls.{TakesByte, TakesPiece, Finishes};
 
 // The most characters of a line, its LF not counted.
-const LONGEST: usize = 16414;
+pub const LONGEST: usize = 16414;
 
 // The room for one line of the report.
-const ROOM: usize = 128;
+pub const ROOM: usize = 128;
 
 // The number of the line being read, its characters so far (one more than the most says too long), and whether the header was
 // bad: then nothing more is reported.
@@ -52,7 +52,7 @@ pub fn start() -> State
 fn following_number(number: usize) -> usize
     ensures { λ r. ⌜ r ≡ following number ⌝ }
 {
-    if number < 18446744073709551615 {
+    if number < usize::MAX {
         return number + 1;
     }
     number
@@ -113,9 +113,9 @@ fn next_line(state: State, line: &[u8]) -> State
     let ended = is_bad_header(state, line);
     let number = following_number(state.number);
     State {
-        number: number,
+        number,
         length: 0,
-        ended: ended,
+        ended,
     }
 }
 
@@ -132,7 +132,7 @@ fn longer_line(state: State) -> State
     }
     State {
         number: state.number,
-        length: length,
+        length,
         ended: false,
     }
 }
@@ -152,10 +152,7 @@ fn step_at(state: State, byte: u8, line: &mut [u8], out: &mut [u8], at: usize) -
     ensures { λ r. ⌜ TakesByte state byte (now (line .entry)) (now (out .entry)) at r (now (line .exit)) (now (out .exit)) ⌝ }
 {
     if state.ended {
-        return Step {
-            state: state,
-            at: at,
-        };
+        return Step { state, at };
     }
     if byte == b'\n' {
         let next = next_line(state, line);
@@ -167,14 +164,11 @@ fn step_at(state: State, byte: u8, line: &mut [u8], out: &mut [u8], at: usize) -
     }
     keep(line, state.length, byte);
     let next = longer_line(state);
-    Step {
-        state: next,
-        at: at,
-    }
+    Step { state: next, at }
 }
 
 // One byte of the dump; the text that it hands out stands at the start of `out`.
-pub fn take_byte(state: State, byte: u8, line: &mut [u8; 16414], out: &mut [u8; 128]) -> Step
+pub fn take_byte(state: State, byte: u8, line: &mut [u8; LONGEST], out: &mut [u8; ROOM]) -> Step
     ensures { λ r. ⌜ TakesByte state byte (now (line .entry)) (now (out .entry)) 0 r (now (line .exit)) (now (out .exit)) ⌝ }
 {
     step_at(state, byte, line, out, 0)
@@ -191,7 +185,7 @@ fn take_bytes(state: State, piece: &[u8], line: &mut [u8], out: &mut [u8]) -> Ta
         if out.len() - at < ROOM {
             return Taken {
                 state: current,
-                taken: taken,
+                taken,
                 written: at,
             };
         }
@@ -202,13 +196,13 @@ fn take_bytes(state: State, piece: &[u8], line: &mut [u8], out: &mut [u8]) -> Ta
     }
     Taken {
         state: current,
-        taken: taken,
+        taken,
         written: at,
     }
 }
 
 // As many bytes of the piece as `out` has room for, 128 bytes a line of the report. The next call takes the rest.
-pub fn take_piece(state: State, piece: &[u8], line: &mut [u8; 16414], out: &mut [u8]) -> Taken
+pub fn take_piece(state: State, piece: &[u8], line: &mut [u8; LONGEST], out: &mut [u8]) -> Taken
     ensures { λ r. ⌜ TakesPiece state (now (piece .entry)) (now (line .entry)) (now (out .entry)) r (now (line .exit)) (now (out .exit)) ⌝ }
 {
     take_bytes(state, piece, line, out)
@@ -225,7 +219,7 @@ fn is_between(state: State) -> bool
 }
 
 // At the end of the input: a last line without its LF, or the header that is missing.
-pub fn finish(state: State, line: &[u8; 16414], out: &mut [u8; 128]) -> usize
+pub fn finish(state: State, line: &[u8; LONGEST], out: &mut [u8; ROOM]) -> usize
     ensures { λ r. ⌜ Finishes state (now (line .entry)) (now (out .entry)) r (now (out .exit)) ⌝ }
 {
     if state.ended {

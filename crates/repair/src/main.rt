@@ -1,4 +1,6 @@
 // The desktop program: a dump from standard input, its report to standard output.
+use dump::state::LONGEST;
+use dump::state::ROOM;
 use dump::state::State;
 use dump::state::finish;
 use dump::state::start;
@@ -16,8 +18,8 @@ struct Next {
     written: bool,
 }
 
-// Takes a whole piece, and writes the report as often as its buffer is full.
-fn report_piece(state: State, piece: &[u8], line: &mut [u8; 16414], out: &mut [u8]) -> Next
+// Takes a whole piece, in as many calls as the report's buffer asks for, and writes what each call hands out.
+fn report_piece(state: State, piece: &[u8], line: &mut [u8; LONGEST], out: &mut [u8]) -> Next
     requires { ⌜ 128 ≤ length (now out) ⌝ }
 {
     let mut current = state;
@@ -43,7 +45,7 @@ fn report_piece(state: State, piece: &[u8], line: &mut [u8; 16414], out: &mut [u
 }
 
 // Reads once. A read that fails ends the input.
-fn report_some(state: State, line: &mut [u8; 16414], out: &mut [u8]) -> Next
+fn report_some(state: State, line: &mut [u8; LONGEST], out: &mut [u8]) -> Next
     requires { ⌜ 128 ≤ length (now out) ⌝ }
 {
     let mut piece = [0u8; 8192];
@@ -56,7 +58,7 @@ fn report_some(state: State, line: &mut [u8; 16414], out: &mut [u8]) -> Next
     }
     if got <= 0 {
         return Next {
-            state: state,
+            state,
             more: false,
             written: true,
         };
@@ -66,7 +68,7 @@ fn report_some(state: State, line: &mut [u8; 16414], out: &mut [u8]) -> Next
 }
 
 // A proved loop has to end: it counts down from a number of reads that no run uses up.
-fn report_all(line: &mut [u8; 16414], out: &mut [u8]) -> Next
+fn report_all(line: &mut [u8; LONGEST], out: &mut [u8]) -> Next
     requires { ⌜ 128 ≤ length (now out) ⌝ }
 {
     let mut current = start();
@@ -87,9 +89,9 @@ fn report_all(line: &mut [u8; 16414], out: &mut [u8]) -> Next
 }
 
 fn main() {
-    let mut line = [0u8; 16414];
+    let mut line = [0u8; LONGEST];
     let mut out = [0u8; 4096];
-    let mut last = [0u8; 128];
+    let mut last = [0u8; ROOM];
     let end = report_all(&mut line, &mut out);
     let mut written = end.written;
     if written {

@@ -39,7 +39,7 @@ fn number_field(line: &[u8], from: usize) -> Field
     match number(&line[from..end]) {
         Decimal::Value(value) => Field {
             is_good: true,
-            value: value,
+            value,
             after: end + 1,
         },
         Decimal::Bad => Field {

@@ -15,6 +15,7 @@ mod check;
 mod compare;
 mod coverage;
 mod ends;
+mod failing;
 mod headers;
 mod items;
 mod kind;
@@ -119,6 +120,9 @@ fn whole_runs(sides: &Sides, scale: Scale, score: &mut Score) {
     }
     let mut maker = scale.maker(sides, "whole runs");
     for check in output::checks(sides, &mut maker) {
+        score.count(&check);
+    }
+    for check in failing::checks(sides, &mut maker) {
         score.count(&check);
     }
     for check in memory::checks(sides, &mut maker) {

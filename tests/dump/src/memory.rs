@@ -16,8 +16,8 @@ const LARGE: usize = 64 << 20;
 /// In KiB.
 const MOST_GROWTH: usize = 256;
 
-/// Stack and address space in KiB: far less than a large dump.
-const LIMITS: [&str; 2] = ["-s 160", "-v 16384"];
+/// Stack and address space in KiB. The buffers are to take less than 64, and all are on the stack.
+const LIMITS: [&str; 2] = ["-s 72", "-v 16384"];
 
 /// A dump that is made while it is written: one part, and then another many times.
 struct Parts<'a> {
@@ -169,7 +169,7 @@ fn lines_of_all_sorts(sides: &Sides, small: &Measured, parts: &Parts) -> Vec<Che
         ..sides.program.clone()
     };
     let name = "64 MiB of lines of all sorts";
-    let little = "64 MiB with a stack of 160 KiB, and 16 MiB in all";
+    let little = "64 MiB with a stack of 72 KiB, and 16 MiB in all";
     vec![
         check(name, small, &measure(sides.program, parts), &expected),
         check(little, small, &measure(&limited, parts), &expected),

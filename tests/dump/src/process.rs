@@ -38,11 +38,13 @@ pub struct Running {
 }
 
 impl Program {
-    fn command(&self) -> Command {
+    pub fn command(&self) -> Command {
         if self.limits.is_empty() {
             return Command::new(&self.path);
         }
-        let mut command = Command::new("sh");
+        // Its environment too would stand on the stack.
+        let mut command = Command::new("/bin/sh");
+        command.env_clear();
         let set = |limit: &&str| format!("ulimit {} && ", limit);
         let limits: String = self.limits.iter().map(set).collect();
         command
