@@ -56,14 +56,14 @@ pub fn record_head(line: &[u8]) -> Head
     ensures { λ r. ⌜ r .frame ≤ length (now (line .entry)) ⌝ }
 {
     let number = number_field(line, 0);
-    let n = number_field(line, number.after);
-    let allowance = number_field(line, n.after);
     if !number.is_good {
         return bad_head();
     }
+    let n = number_field(line, number.after);
     if !n.is_good {
         return bad_head();
     }
+    let allowance = number_field(line, n.after);
     if !allowance.is_good {
         return bad_head();
     }
