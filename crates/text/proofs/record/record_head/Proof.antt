@@ -1,7 +1,6 @@
 -- `text::record::record_head` meets its contract.
 -- Assumes nothing.
 use mathlib.Core.Path.{refl}
-use mathlib.Core.Path.{refl}
 use borrow.Author.Tests.{not-true, not-false}
 use borrow.Author.Needs.{needs}
 use Rattle.text.proofs.FieldLaws.{head-bad-1, head-bad-2, head-bad-3, head-good}

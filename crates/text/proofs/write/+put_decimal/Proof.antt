@@ -1,6 +1,5 @@
 -- `text::write::put_decimal` meets its contract. It calls itself with one digit less: the measure is the number.
 -- Assumes nothing.
-use Prim.Native.Nat.{ℕ, _+_, _<_}
 use Prim.Native.Nat.{ℕ, _<_}
 use native.Mathlib.Omega.{arith}
 use borrow.Author.Needs.{needs}
