@@ -53,8 +53,8 @@ record Partial (s : State) (line : List ℕ) (p : Text) : Type 0 where
   is-held : Held s line p
 
 -- what it gives when it ends
-closed-over : (k : ℕ) (s t : Text) → longest < length s → longest < length t → closed k s ≡ closed k t
-closed-over k s t h l =
+too-long-closed : (k : ℕ) (s t : Text) → longest < length s → longest < length t → closed k s ≡ closed k t
+too-long-closed k s t h l =
     ap₂ (λ (b : Bool) (x : Text). pick (eqb k 1) (pick b goodHeader badHeader) x)
     (sym (too-long-header s h) ∙ too-long-header t l)
     (ap (lineText k) (too-long-bad s h ∙ sym (too-long-bad t l)))
@@ -64,7 +64,7 @@ held-closed :
     → closed k (held (s .length) line) ≡ closed k p
 held-closed k s line p f (inl h) = ap (closed k) (held-kept (s .length) line (omega (arith, f, h .0, h .1)) ∙ h .2)
 held-closed k s line p f (inr h) =
-    closed-over k (held (s .length) line) p (omega (arith, h .0, held-over (s .length) line (omega (arith, f, h .0)))) (h .1)
+    too-long-closed k (held (s .length) line) p (omega (arith, h .0, held-over (s .length) line (omega (arith, f, h .0)))) (h .1)
 
 held-same :
     (s : State) (line : List ℕ) (p : Text) → length line ≡ longest → Held s line p

@@ -22,11 +22,15 @@ use Rattle.text.specs.Laid.{Lays}
 use Rattle.text.proofs.LaidLaws.{laid-none}
 use Rattle.dump.specs.Stream.{held, closed, following, isBadHeader, nextLine, longer, isBetween, stateAfter, lineAfter, textAfter, textAtEnd}
 
+-- a choice, where its test is known
+pub picked {ℓ} : {A : Type ℓ} {b c : Bool} (x y : A) → b ≡ c → pick c x y ≡ pick b x y
+picked x y e = sym (ap (λ (d : Bool). pick d x y) e)
+
 pub following-more : (k : ℕ) → k < 18446744073709551615 → k + 1 ≡ following k
-following-more k h = add-one k ∙ sym (ap (λ (b : Bool). pick b (suc k) k) (lt-ltb k 18446744073709551615 h))
+following-more k h = add-one k ∙ picked (suc k) k (lt-ltb k 18446744073709551615 h)
 
 pub following-same : (k : ℕ) → 18446744073709551615 ≤ k → k ≡ following k
-following-same k h = sym (ap (λ (b : Bool). pick b (suc k) k) (le-ltb k 18446744073709551615 h))
+following-same k h = picked (suc k) k (le-ltb k 18446744073709551615 h)
 
 pub keep-out : (line : List ℕ) (p x : ℕ) → length line ≤ p → line ≡ set line p x
 keep-out line p x h = sym (set-out line p x h)
@@ -37,10 +41,10 @@ withLength s l = record { number = s .number; length = l; ended = false }
 
 pub longer-more : (s : State) → s .length ≤ longest → withLength s (s .length + 1) ≡ longer s
 longer-more s h =
-    ap (withLength s) (add-one (s .length) ∙ sym (ap (λ (b : Bool). pick b (suc (s .length)) (s .length)) (le-leb (s .length) longest h)))
+    ap (withLength s) (add-one (s .length) ∙ picked (suc (s .length)) (s .length) (le-leb (s .length) longest h))
 
 pub longer-same : (s : State) → longest < s .length → withLength s (s .length) ≡ longer s
-longer-same s h = ap (withLength s) (sym (ap (λ (b : Bool). pick b (suc (s .length)) (s .length)) (lt-leb (s .length) longest h)))
+longer-same s h = ap (withLength s) (picked (suc (s .length)) (s .length) (lt-leb (s .length) longest h))
 
 -- ---- the line so far
 
@@ -86,21 +90,15 @@ lays-as out at r exit t u e = subst (λ (x : Text). Lays out at x r exit) e
 pub lays-none : (out : List ℕ) (at : ℕ) (t : Text) → at ≤ length out → [] ≡ t → Lays out at t at out
 lays-none out at t h e = lays-as out at at out [] t e (sym (add-zero at), h, sym (laid-none out at))
 
-pub picked-true : (b : Bool) (x y : Text) → b ≡ true → x ≡ pick b x y
-picked-true b x y e = sym (ap (λ (c : Bool). pick c x y) e)
-
-pub picked-false : (b : Bool) (x y : Text) → b ≡ false → y ≡ pick b x y
-picked-false b x y e = sym (ap (λ (c : Bool). pick c x y) e)
-
 -- ---- a whole line
 
 not-first : (k : ℕ) (s : Text) → k ≢ 1 → lineText k (lineOf s) ≡ closed k s
-not-first k s d = picked-false (eqb k 1) (pick (same s header) goodHeader badHeader) (lineText k (lineOf s)) (ne-eqb k 1 d)
+not-first k s d = picked (pick (same s header) goodHeader badHeader) (lineText k (lineOf s)) (ne-eqb k 1 d)
 
 pub closed-first : (k : ℕ) (s : Text) (x : Bool) → k ≡ 1 → x ≡ same s header → pick x goodHeader badHeader ≡ closed k s
 closed-first k s x e q =
     ap (λ (b : Bool). pick b goodHeader badHeader) q
-    ∙ picked-true (eqb k 1) (pick (same s header) goodHeader badHeader) (lineText k (lineOf s)) (eq-eqb k 1 e)
+    ∙ picked (pick (same s header) goodHeader badHeader) (lineText k (lineOf s)) (eq-eqb k 1 e)
 
 module _ (l : ℕ) (line : List ℕ) (full : length line ≡ longest) where
   pub header-over : longest < l → false ≡ same (held l line) header
@@ -128,9 +126,9 @@ module _ (s : State) (line : List ℕ) (x : ℕ) where
   pub after-ended : s .ended ≡ true → (s ≡ stateAfter s line x) × (line ≡ lineAfter s line x) × ([] ≡ textAfter s line x)
   unfolding stateAfter lineAfter textAfter
   after-ended e = (
-    sym (ap (λ (b : Bool). pick b s (pick (eqb x lf) (nextLine s line) (longer s))) e),
-    sym (ap (λ (b : Bool). pick b line (pick (eqb x lf) line (set line (s .length) x))) e),
-    picked-true (s .ended) [] (pick (eqb x lf) (closed (s .number) (held (s .length) line)) []) e,
+    picked s (pick (eqb x lf) (nextLine s line) (longer s)) e,
+    picked line (pick (eqb x lf) line (set line (s .length) x)) e,
+    picked [] (pick (eqb x lf) (closed (s .number) (held (s .length) line)) []) e,
   )
 
   module _ (going : s .ended ≡ false) where
@@ -143,8 +141,8 @@ module _ (s : State) (line : List ℕ) (x : ℕ) where
     after-lf e = (
       sym (ap₂ (λ (b c : Bool). pick b s (pick c (nextLine s line) (longer s))) going (eq-eqb x lf e)),
       sym (ap₂ (λ (b c : Bool). pick b line (pick c line (set line (s .length) x))) going (eq-eqb x lf e)),
-      picked-true (eqb x lf) (closed (s .number) (held (s .length) line)) [] (eq-eqb x lf e)
-          ∙ picked-false (s .ended) [] (pick (eqb x lf) (closed (s .number) (held (s .length) line)) []) going,
+      picked (closed (s .number) (held (s .length) line)) [] (eq-eqb x lf e)
+          ∙ picked [] (pick (eqb x lf) (closed (s .number) (held (s .length) line)) []) going,
     )
 
     pub after-other :
@@ -154,8 +152,8 @@ module _ (s : State) (line : List ℕ) (x : ℕ) where
     after-other e = (
       sym (ap₂ (λ (b c : Bool). pick b s (pick c (nextLine s line) (longer s))) going (ne-eqb x lf e)),
       sym (ap₂ (λ (b c : Bool). pick b line (pick c line (set line (s .length) x))) going (ne-eqb x lf e)),
-      picked-false (eqb x lf) (closed (s .number) (held (s .length) line)) [] (ne-eqb x lf e)
-          ∙ picked-false (s .ended) [] (pick (eqb x lf) (closed (s .number) (held (s .length) line)) []) going,
+      picked (closed (s .number) (held (s .length) line)) [] (ne-eqb x lf e)
+          ∙ picked [] (pick (eqb x lf) (closed (s .number) (held (s .length) line)) []) going,
     )
 
 -- ---- at the end
@@ -163,20 +161,20 @@ module _ (s : State) (line : List ℕ) (x : ℕ) where
 module _ (s : State) (line : List ℕ) where
   pub end-ended : s .ended ≡ true → [] ≡ textAtEnd s line
   unfolding textAtEnd
-  end-ended e = picked-true (s .ended) [] (pick (isBetween s) [] (closed (s .number) (held (s .length) line))) e
+  end-ended e = picked [] (pick (isBetween s) [] (closed (s .number) (held (s .length) line))) e
 
   module _ (going : s .ended ≡ false) where
     pub end-none : isBetween s ≡ true → [] ≡ textAtEnd s line
     unfolding textAtEnd
     end-none e =
-        picked-true (isBetween s) [] (closed (s .number) (held (s .length) line)) e
-        ∙ picked-false (s .ended) [] (pick (isBetween s) [] (closed (s .number) (held (s .length) line))) going
+        picked [] (closed (s .number) (held (s .length) line)) e
+        ∙ picked [] (pick (isBetween s) [] (closed (s .number) (held (s .length) line))) going
 
     pub end-line : isBetween s ≡ false → closed (s .number) (held (s .length) line) ≡ textAtEnd s line
     unfolding textAtEnd
     end-line e =
-        picked-false (isBetween s) [] (closed (s .number) (held (s .length) line)) e
-        ∙ picked-false (s .ended) [] (pick (isBetween s) [] (closed (s .number) (held (s .length) line))) going
+        picked [] (closed (s .number) (held (s .length) line)) e
+        ∙ picked [] (pick (isBetween s) [] (closed (s .number) (held (s .length) line))) going
 
   pub bad-header-not : s .number ≢ 1 → false ≡ isBadHeader s line
   bad-header-not d = ap (λ (b : Bool). b && not (same (held (s .length) line) header)) (sym (ne-eqb (s .number) 1 d))

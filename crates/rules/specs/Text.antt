@@ -11,6 +11,7 @@ use Rattle.algebra.specs.Tables.{tab}
 abbrev pub Text : Type 0
 Text = List ℕ
 
+-- document 01's words as texts
 abbrev pub ascii : String → Text
 ascii none = []
 ascii (c then s) = code c ∷ ascii s
@@ -85,6 +86,7 @@ decimal x = digits (suc x) x
 abbrev pub isHexDigit : ℕ → Bool
 isHexDigit x = isDigit x || (leb 65 x && leb x 70)
 
+-- the value of a letter, `A` for 10, or of a figure
 abbrev pub letterOr : Bool → ℕ → ℕ
 letterOr true x = x - 55
 letterOr false x = digitValue x

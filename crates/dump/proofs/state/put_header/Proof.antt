@@ -2,7 +2,7 @@
 -- Assumes nothing.
 use borrow.Author.Needs.{needs}
 use Rattle.rules.specs.Dump.{goodHeader, badHeader}
-use Rattle.dump.proofs.StateLaws.{lays-as, picked-true, picked-false}
+use Rattle.dump.proofs.StateLaws.{lays-as, picked}
 use Rattle.dump.proofs.state.put_header.Statement.{statement}
 use Rattle.dump.proofs.state.put_header.Tie as tie
 
@@ -16,7 +16,7 @@ same-length : tie.Need-same-length
 same-length c = search needs
 
 returns : tie.Need-returns
-returns c = let a = c .before .before .before .before .before .before .before .args in lays-as _ _ _ _ _ _ (picked-true (a .good) goodHeader badHeader (c .before .before .before .before .before .if1 .taken)) (c .before .before .put .ensures)
+returns c = let a = c .before .before .before .before .before .before .before .args in lays-as _ _ _ _ _ _ (picked goodHeader badHeader (c .before .before .before .before .before .if1 .taken)) (c .before .before .put .ensures)
 
 slice-aggregate-put-2 : tie.Need-slice-aggregate-put-2
 slice-aggregate-put-2 c = search needs
@@ -28,7 +28,7 @@ same-length-2 : tie.Need-same-length-2
 same-length-2 c = search needs
 
 returns-2 : tie.Need-returns-2
-returns-2 c = let a = c .before .before .before .before .before .before .before .args in lays-as _ _ _ _ _ _ (picked-false (a .good) goodHeader badHeader (c .before .before .before .before .before .if1 .left)) (c .before .before .put2 .ensures)
+returns-2 c = let a = c .before .before .before .before .before .before .before .args in lays-as _ _ _ _ _ _ (picked goodHeader badHeader (c .before .before .before .before .before .if1 .left)) (c .before .before .put2 .ensures)
 
 pub put-header-spec : {M : Type 1} → statement M
 put-header-spec =
