@@ -1,6 +1,6 @@
 // One call of each entry point, on lent parts of the given lengths: `.._call` lends them, `.._line` calls and prints.
 use crate::show::number;
-use crate::show::show_ending;
+use crate::show::show_decoded;
 use crate::show::show_said;
 use crate::show::text;
 use crate::show::touched;
@@ -79,13 +79,8 @@ fn decode_line(n: usize, allowance: usize, ones: usize, from: &mut [u8], to: &mu
     number(to.len());
     fill(from, ones, 255);
     let r = decode(n, allowance, from, to);
-    let ending = r.ending;
     text(b":");
-    show_ending(ending);
-    number(r.passes);
-    number(r.flips);
-    number(r.rows);
-    number(r.columns);
+    show_decoded(r);
     touched(to, MARK);
 }
 

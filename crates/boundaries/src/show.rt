@@ -1,5 +1,7 @@
 // Lines of the report.
+use frame::decode::Decoded;
 use frame::decode::Ending;
+use frame::decode::Report;
 use libc::STDOUT_FILENO;
 use word::decode::Said;
 use word::locate::Answer;
@@ -13,16 +15,29 @@ pub fn number(x: usize) {
     io::print_decimal(STDOUT_FILENO, x as u64);
 }
 
-pub fn show_ending(ending: Ending) {
+fn show_report(report: Report) {
+    let ending = report.ending;
     match ending {
         Ending::Clean => text(b" clean"),
         Ending::Repaired => text(b" repaired"),
         Ending::Stuck => text(b" stuck"),
         Ending::Spent => text(b" spent"),
-        Ending::Refused(r) => {
-            text(b" refused");
-            number(r as usize);
-        }
+    }
+    number(report.passes);
+    number(report.flips);
+    number(report.rows);
+    number(report.columns);
+}
+
+fn show_refused(k: u32) {
+    text(b" refused");
+    number(k as usize);
+}
+
+pub fn show_decoded(decoded: Decoded) {
+    match decoded {
+        Decoded::Refused(k) => show_refused(k),
+        Decoded::Ended(report) => show_report(report),
     }
 }
 
@@ -44,10 +59,7 @@ fn show_answer(answer: Answer) {
 
 pub fn show_said(said: Said) {
     match said {
-        Said::Refused(r) => {
-            text(b" refused");
-            number(r as usize);
-        }
+        Said::Refused(k) => show_refused(k),
         Said::Answered(answer) => show_answer(answer),
     }
 }

@@ -4,39 +4,38 @@ use mathlib.Core.Path.{_≡_, refl, sym, ap, _∙_}
 use mathlib.Core.Bool.{Bool, true, false}
 use mathlib.Core.List.{List}
 use Prim.Native.Nat.{ℕ}
-use Rattle.rules.specs.Words as rules
+use Rattle.rules.specs.Numbers as rules
 use Rattle.rules.specs.Frames.{Frame}
 use Rattle.rules.specs.Bits.{frameOf, bytesOf}
 use Rattle.rules.specs.Passes as passes
 use Rattle.rules.specs.Passes.{decoded}
-use Rattle.rules.specs.Numbers as outcome
 use Rattle.rules.specs.Numbers.{pick, handedOut, decodeSaid, decodeOutput}
 use Rattle.laws.specs.Turns.{cornered}
 use Rattle.laws.proofs.DecodeLaws as refusals
 use Rattle.laws.proofs.DecodeLaws.{Accepted, accepted, copied-frame}
-use Rattle.laws.proofs.PassStepLaws.{Ended}
+use Rattle.laws.proofs.PassStepLaws as steps
 use Rattle.frame.specs.declared.decode.Report.{Report}
-use Rattle.frame.specs.declared.decode.Ending.the-variants.{Refused}
-use Rattle.frame.specs.Said.{endingOf, onlyEnding, reportOf, isFailure}
+use Rattle.frame.specs.declared.decode.Decoded.the-variants.{Ended}
+use Rattle.frame.specs.Said.{endingOf, reportWith, reportOf, decodedOf, isFailure}
 
 -- a report of the outcome, and the buffer its frame
 pub reported :
-    {n a : ℕ} {f : Frame} {s : List ℕ} {e : passes.Ending} {p x r c : ℕ} → Ended n a f s e p x r c
-    → (record { ending = endingOf e; passes = p; flips = x; rows = r; columns = c } ≡ reportOf (outcome.told (decoded n a f)))
+    {n a : ℕ} {f : Frame} {s : List ℕ} {e : passes.Ending} {p x r c : ℕ} → steps.Ended n a f s e p x r c
+    → (reportWith e p x r c ≡ reportOf (decoded n a f))
     × (s ≡ bytesOf n (decoded n a f .last))
 reported {n = n} h =
-    (ap (λ o. reportOf (outcome.told o)) (sym (h .outcome)), h .packed ∙ ap (λ o. bytesOf n (o .last)) (sym (h .outcome)))
+    (ap reportOf (sym (h .outcome)), h .packed ∙ ap (λ o. bytesOf n (o .last)) (sym (h .outcome)))
 
 -- a refusal leaves the output as it was
 pub refusal-said :
-    (n a : ℕ) (input output : List ℕ) (r : Report) (k : ℕ) → r ≡ onlyEnding (Refused k) → refusals.Refused n a input output k
-    → (r ≡ reportOf (decodeSaid n a input output)) × (output ≡ decodeOutput n a input output)
-refusal-said n a input output r k e h = (e ∙ ap reportOf (sym (h .0)), sym (h .1))
+    (n a : ℕ) (input output : List ℕ) (k : ℕ) → refusals.Refused n a input output k
+    → (decodedOf (rules.refused k) ≡ decodedOf (decodeSaid n a input output)) × (output ≡ decodeOutput n a input output)
+refusal-said n a input output k h = (ap decodedOf (sym (h .0)), sym (h .1))
 
 -- stuck and spent hand back what was received, clean and repaired the last frame
 handed-is :
     (n : ℕ) (input : List ℕ) (o : passes.Outcome)
-    → handedOut n input o ≡ pick (isFailure (reportOf (outcome.told o) .ending)) input (bytesOf n (o .last))
+    → handedOut n input o ≡ pick (isFailure (reportOf o .ending)) input (bytesOf n (o .last))
 handed-is n input o = go (o .ending)
   where
     go :
@@ -56,20 +55,20 @@ handed-is n input o = go (o .ending)
 -- all checks passed: the frame was copied to s, and repaired there
 module _
     (n a : ℕ) (input output s : List ℕ) (ok : Accepted n a input output) (copied : s ≡ bytesOf n (cornered n n (frameOf n input)))
-    (r : Report) (er : r ≡ reportOf (outcome.told (decoded n a (frameOf n s))))
+    (r : Report) (er : r ≡ reportOf (decoded n a (frameOf n s)))
     (b : Bool) (eb : b ≡ isFailure (r .ending)) (t : List ℕ)
   where
     same : frameOf n s ≡ frameOf n input
     same = copied-frame n input s copied
 
-    told-is : r ≡ reportOf (outcome.told (decoded n a (frameOf n input)))
-    told-is = er ∙ ap (λ f. reportOf (outcome.told (decoded n a f))) same
+    told-is : r ≡ reportOf (decoded n a (frameOf n input))
+    told-is = er ∙ ap (λ f. reportOf (decoded n a f)) same
 
     abbrev out : passes.Outcome
     out = decoded n a (frameOf n input)
 
-    said-is : r ≡ reportOf (decodeSaid n a input output)
-    said-is = told-is ∙ ap reportOf (sym (accepted n a input output ok .0))
+    said-is : Ended r ≡ decodedOf (decodeSaid n a input output)
+    said-is = ap Ended told-is ∙ ap decodedOf (sym (accepted n a input output ok .0))
 
     -- what is handed out, by the test that the code makes
     output-is : decodeOutput n a input output ≡ pick b input (bytesOf n (out .last))
@@ -78,11 +77,11 @@ module _
         ∙ handed-is n input out
         ∙ ap (λ x. pick x input (bytesOf n (out .last))) (sym (eb ∙ ap (λ (x : Report). isFailure (x .ending)) told-is))
 
-    pub failed : b ≡ true → t ≡ input → (r ≡ reportOf (decodeSaid n a input output)) × (t ≡ decodeOutput n a input output)
+    pub failed : b ≡ true → t ≡ input → (Ended r ≡ decodedOf (decodeSaid n a input output)) × (t ≡ decodeOutput n a input output)
     failed h e = (said-is, e ∙ sym (output-is ∙ rw h))
 
     pub succeeded :
         b ≡ false → t ≡ bytesOf n (decoded n a (frameOf n s) .last)
-        → (r ≡ reportOf (decodeSaid n a input output)) × (t ≡ decodeOutput n a input output)
+        → (Ended r ≡ decodedOf (decodeSaid n a input output)) × (t ≡ decodeOutput n a input output)
     succeeded h e =
         (said-is, e ∙ ap (λ f. bytesOf n (decoded n a f .last)) same ∙ sym (output-is ∙ rw h))

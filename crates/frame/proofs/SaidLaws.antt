@@ -1,11 +1,11 @@
--- The code's answers carry document 01's number and values.
+-- The code's answers carry the number and the values of the rules.
 -- Assumes nothing.
 use mathlib.Core.Path.{_≡_, refl}
 use Rattle.rules.specs.Passes.{clean, repaired, stuck, spent}
 use Rattle.rules.specs.Numbers.{Decoded, refused, ended, figuresOf}
-use Rattle.frame.specs.Said.{reportOf, figures}
+use Rattle.frame.specs.Said.{decodedOf, figures}
 
-pub figures-said : (d : Decoded) → figures (reportOf d) ≡ figuresOf d
+pub figures-said : (d : Decoded) → figures (decodedOf d) ≡ figuresOf d
 figures-said (refused r) = refl
 figures-said (ended clean p f r c) = refl
 figures-said (ended repaired p f r c) = refl

@@ -8,11 +8,12 @@ use Rattle.algebra.specs.Words.{Word, differ}
 use Rattle.rules.specs.Words.{mend}
 use Rattle.rules.specs.Bits.{frameOf, bytesOf}
 use Rattle.rules.specs.Passes.{decoded}
-use Rattle.rules.specs.Numbers.{told, encodeNumber, encodeOutput, readNumber, readOutput, decodeSaid, decodeOutput, rowPart}
+use Rattle.rules.specs.Numbers.{encodeNumber, encodeOutput, readNumber, readOutput, decodeSaid, decodeOutput, rowPart}
 use Rattle.laws.specs.InPlace.{put}
 use Rattle.laws.specs.Turns.{wordIn, startOf, stepOf}
 use Rattle.frame.specs.declared.decode.Report.{Report}
-use Rattle.frame.specs.Said.{reportOf}
+use Rattle.frame.specs.declared.decode.Decoded.{Decoded}
+use Rattle.frame.specs.Said.{reportOf, decodedOf}
 
 abbrev pub Encodes : ℕ → List ℕ → List ℕ → ℕ → List ℕ → Type 0
 Encodes n message output r exit = (r ≡ encodeNumber n message output) × (exit ≡ encodeOutput n message output)
@@ -20,9 +21,9 @@ Encodes n message output r exit = (r ≡ encodeNumber n message output) × (exit
 abbrev pub Reads : ℕ → List ℕ → List ℕ → ℕ → List ℕ → Type 0
 Reads n frame output r exit = (r ≡ readNumber n frame output) × (exit ≡ readOutput n frame output)
 
-abbrev pub Decodes : ℕ → ℕ → List ℕ → List ℕ → Report → List ℕ → Type 0
+abbrev pub Decodes : ℕ → ℕ → List ℕ → List ℕ → Decoded → List ℕ → Type 0
 Decodes n allowance received output r exit =
-    (r ≡ reportOf (decodeSaid n allowance received output)) × (exit ≡ decodeOutput n allowance received output)
+    (r ≡ decodedOf (decodeSaid n allowance received output)) × (exit ≡ decodeOutput n allowance received output)
 
 -- word k in a direction mended in place: r of its bits are changed
 abbrev pub MendsWord : ℕ → Bool → ℕ → List ℕ → ℕ → List ℕ → Type 0
@@ -33,7 +34,7 @@ MendsWord n columns k s r exit =
 -- the passes alone, in a buffer whose spare bits are zero: they leave the last frame there
 abbrev pub Repairs : ℕ → ℕ → List ℕ → Report → List ℕ → Type 0
 Repairs n allowance s r exit =
-    (r ≡ reportOf (told (decoded n allowance (frameOf n s)))) × (exit ≡ bytesOf n (decoded n allowance (frameOf n s) .last))
+    (r ≡ reportOf (decoded n allowance (frameOf n s))) × (exit ≡ bytesOf n (decoded n allowance (frameOf n s) .last))
 
 -- a row has no lent output: what is returned is a part of the frame
 abbrev pub TakesRow : ℕ → List ℕ → ℕ → List ℕ → Type 0

@@ -1,11 +1,14 @@
--- From what `rules` says of decoding to the code's struct and enum, and document 01's number and values for each case of them.
+-- From what the rules say of decoding to the code's struct and enums, and the number and values of each of their cases.
 use mathlib.Core.Bool.{Bool, true, false}
 use Prim.Native.Nat.{ℕ}
 use Rattle.rules.specs.Passes as passes
-use Rattle.rules.specs.Numbers.{Decoded, refused, ended, Figures}
+use Rattle.rules.specs.Numbers as rules
+use Rattle.rules.specs.Numbers.{Figures}
 use Rattle.frame.specs.declared.decode.Ending.{Ending}
-use Rattle.frame.specs.declared.decode.Ending.the-variants.{Clean, Repaired, Stuck, Spent, Refused}
+use Rattle.frame.specs.declared.decode.Ending.the-variants.{Clean, Repaired, Stuck, Spent}
 use Rattle.frame.specs.declared.decode.Report.{Report}
+use Rattle.frame.specs.declared.decode.Decoded.{Decoded}
+use Rattle.frame.specs.declared.decode.Decoded.the-variants.{Refused, Ended}
 
 abbrev pub endingOf : passes.Ending → Ending
 endingOf passes.clean = Clean
@@ -13,13 +16,20 @@ endingOf passes.repaired = Repaired
 endingOf passes.stuck = Stuck
 endingOf passes.spent = Spent
 
--- an ending with nothing counted
-abbrev pub onlyEnding : Ending → Report
-onlyEnding e = record { ending = e; passes = 0; flips = 0; rows = 0; columns = 0 }
+abbrev pub reportWith : passes.Ending → ℕ → ℕ → ℕ → ℕ → Report
+reportWith e p f r c = record { ending = endingOf e; passes = p; flips = f; rows = r; columns = c }
 
-abbrev pub reportOf : Decoded → Report
-reportOf (refused r) = onlyEnding (Refused r)
-reportOf (ended e p f r c) = record { ending = endingOf e; passes = p; flips = f; rows = r; columns = c }
+-- an outcome, but for its frame
+abbrev pub reportOf : passes.Outcome → Report
+reportOf o = reportWith (o .ending) (o .passes) (o .flips) (o .rows) (o .columns)
+
+abbrev pub decodedOf : rules.Decoded → Decoded
+decodedOf (rules.refused k) = Refused k
+decodedOf (rules.ended e p f r c) = Ended (reportWith e p f r c)
+
+-- a frame that needed no pass
+abbrev pub cleanReport : Report
+cleanReport = record { ending = Clean; passes = 0; flips = 0; rows = 0; columns = 0 }
 
 -- stuck and spent
 abbrev pub isFailure : Ending → Bool
@@ -27,15 +37,17 @@ isFailure Clean = false
 isFailure Repaired = false
 isFailure Stuck = true
 isFailure Spent = true
-isFailure (Refused k) = false
 
--- document 01's number and values: "Passes and flips stand for 0, 7 and 8; rows and columns for 7 and 8; all else is zero."
+-- the number, and the values that stand beside it: rows and columns for stuck and spent alone
 abbrev pub figuresFor : Ending → ℕ → ℕ → ℕ → ℕ → Figures
 figuresFor Clean p f r c = record { number = 0; passes = p; flips = f; rows = 0; columns = 0 }
 figuresFor Repaired p f r c = record { number = 0; passes = p; flips = f; rows = 0; columns = 0 }
 figuresFor Stuck p f r c = record { number = 7; passes = p; flips = f; rows = r; columns = c }
 figuresFor Spent p f r c = record { number = 8; passes = p; flips = f; rows = r; columns = c }
-figuresFor (Refused k) p f r c = record { number = k; passes = 0; flips = 0; rows = 0; columns = 0 }
 
-abbrev pub figures : Report → Figures
-figures r = figuresFor (r .ending) (r .passes) (r .flips) (r .rows) (r .columns)
+abbrev pub reportFigures : Report → Figures
+reportFigures r = figuresFor (r .ending) (r .passes) (r .flips) (r .rows) (r .columns)
+
+abbrev pub figures : Decoded → Figures
+figures (Refused k) = record { number = k; passes = 0; flips = 0; rows = 0; columns = 0 }
+figures (Ended r) = reportFigures r

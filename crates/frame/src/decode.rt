@@ -3,6 +3,10 @@ use crate::corner::copy_corner;
 use crate::sizes::square_bytes;
 use crate::words::bad;
 use crate::words::mend_word;
+use word::numbers::BAD_ALLOWANCE;
+use word::numbers::BAD_INPUT_LENGTH;
+use word::numbers::BAD_N;
+use word::numbers::BAD_OUTPUT_LENGTH;
 use word::sizes::outside;
 ghost use mathlib.Core.Path.{_≡_};
 ghost use Prim.Native.Nat.{_≤_};
@@ -10,7 +14,7 @@ ghost use Rattle.rules.specs.Passes.{isStuck};
 ghost use Rattle.rules.specs.Numbers.{mostAllowed, notAllowed};
 ghost use Rattle.laws.specs.Turns.{Ready};
 ghost use Rattle.frame.specs.Calls.{Repairs, Decodes};
-ghost use Rattle.frame.specs.Said.{onlyEnding, isFailure};
+ghost use Rattle.frame.specs.Said.{cleanReport, isFailure};
 
 const MOST_ALLOWED: usize = 32;
 
@@ -19,7 +23,6 @@ pub enum Ending {
     Repaired,
     Stuck,
     Spent,
-    Refused(u32),
 }
 
 // How it ended, the passes made, the bits flipped, and for stuck and spent the rows and columns that are not codewords.
@@ -31,12 +34,18 @@ pub struct Report {
     pub columns: usize,
 }
 
-// An ending with nothing counted.
-fn only(ending: Ending) -> Report
-    ensures { λ r. ⌜ r ≡ onlyEnding ending ⌝ }
+// A refusal by its number, or what the passes gave.
+pub enum Decoded {
+    Refused(u32),
+    Ended(Report),
+}
+
+// No pass was needed, and nothing is counted.
+fn clean() -> Report
+    ensures { λ r. ⌜ r ≡ cleanReport ⌝ }
 {
     Report {
-        ending,
+        ending: Ending::Clean,
         passes: 0,
         flips: 0,
         rows: 0,
@@ -53,7 +62,6 @@ fn is_failure(ending: Ending) -> bool
         Ending::Spent => true,
         Ending::Clean => false,
         Ending::Repaired => false,
-        Ending::Refused(_) => false,
     }
 }
 
@@ -84,7 +92,7 @@ fn repair(n: usize, allowance: usize, s: &mut [u8]) -> Report
     let mut rows = bad(n, s, false);
     let mut columns = bad(n, s, true);
     if rows + columns == 0 {
-        return only(Ending::Clean);
+        return clean();
     }
     let mut passes = 0;
     let mut flips = 0;
@@ -118,26 +126,26 @@ fn repair(n: usize, allowance: usize, s: &mut [u8]) -> Report
 }
 
 // Numbers 1 to 4 leave `frame` untouched; stuck and spent leave the received bytes in it.
-pub fn decode(n: usize, allowance: usize, received: &[u8], frame: &mut [u8]) -> Report
+pub fn decode(n: usize, allowance: usize, received: &[u8], frame: &mut [u8]) -> Decoded
     ensures { λ r. ⌜ Decodes n allowance (now (received .entry)) (now (frame .entry)) r (now (frame .exit)) ⌝ }
 {
     if outside(n) {
-        return only(Ending::Refused(1));
+        return Decoded::Refused(BAD_N);
     }
     if received.len() != square_bytes(n) {
-        return only(Ending::Refused(2));
+        return Decoded::Refused(BAD_INPUT_LENGTH);
     }
     if frame.len() != square_bytes(n) {
-        return only(Ending::Refused(3));
+        return Decoded::Refused(BAD_OUTPUT_LENGTH);
     }
     if not_allowed(allowance) {
-        return only(Ending::Refused(4));
+        return Decoded::Refused(BAD_ALLOWANCE);
     }
     copy_corner(n, n, received, n, frame);
-    let r = repair(n, allowance, frame);
-    let ending = r.ending;
+    let report = repair(n, allowance, frame);
+    let ending = report.ending;
     if is_failure(ending) {
         bytes::copy(received, frame);
     }
-    r
+    Decoded::Ended(report)
 }

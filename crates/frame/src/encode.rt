@@ -3,28 +3,34 @@ use crate::corner::copy_corner;
 use crate::corner::is_packed;
 use crate::sizes::square_bytes;
 use crate::words::encode_words;
+use word::numbers::BAD_INPUT_LENGTH;
+use word::numbers::BAD_N;
+use word::numbers::BAD_OUTPUT_LENGTH;
+use word::numbers::DONE;
+use word::numbers::SPARE_BIT_SET;
+use word::sizes::CHECK_BITS;
 use word::sizes::outside;
 ghost use Rattle.frame.specs.Calls.{Encodes};
 
-// Document 01's number; all but 0 leave `frame` untouched.
+// The number of the rules; all but 0 leave `frame` untouched.
 pub fn encode(n: usize, message: &[u8], frame: &mut [u8]) -> u32
     ensures { λ r. ⌜ Encodes n (now (message .entry)) (now (frame .entry)) r (now (frame .exit)) ⌝ }
 {
     if outside(n) {
-        return 1;
+        return BAD_N;
     }
-    let k = n - 17;
+    let k = n - CHECK_BITS;
     if message.len() != square_bytes(k) {
-        return 2;
+        return BAD_INPUT_LENGTH;
     }
     if frame.len() != square_bytes(n) {
-        return 3;
+        return BAD_OUTPUT_LENGTH;
     }
     if !is_packed(k, message) {
-        return 5;
+        return SPARE_BIT_SET;
     }
     copy_corner(k, k, message, n, frame);
     encode_words(n, frame, false, k);
     encode_words(n, frame, true, n);
-    0
+    DONE
 }

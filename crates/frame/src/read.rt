@@ -2,26 +2,32 @@
 use crate::corner::copy_corner;
 use crate::sizes::square_bytes;
 use crate::words::bad;
+use word::numbers::BAD_INPUT_LENGTH;
+use word::numbers::BAD_N;
+use word::numbers::BAD_OUTPUT_LENGTH;
+use word::numbers::DONE;
+use word::numbers::NOT_CODEWORDS;
+use word::sizes::CHECK_BITS;
 use word::sizes::outside;
 ghost use Rattle.frame.specs.Calls.{Reads};
 
-// Document 01's number; all but 0 leave `message` untouched.
+// The number of the rules; all but 0 leave `message` untouched.
 pub fn read(n: usize, frame: &[u8], message: &mut [u8]) -> u32
     ensures { λ r. ⌜ Reads n (now (frame .entry)) (now (message .entry)) r (now (message .exit)) ⌝ }
 {
     if outside(n) {
-        return 1;
+        return BAD_N;
     }
-    let k = n - 17;
+    let k = n - CHECK_BITS;
     if frame.len() != square_bytes(n) {
-        return 2;
+        return BAD_INPUT_LENGTH;
     }
     if message.len() != square_bytes(k) {
-        return 3;
+        return BAD_OUTPUT_LENGTH;
     }
     if bad(n, frame, false) + bad(n, frame, true) != 0 {
-        return 6;
+        return NOT_CODEWORDS;
     }
     copy_corner(k, n, frame, k, message);
-    0
+    DONE
 }

@@ -6,6 +6,7 @@ use word::mend::mend;
 use word::sizes::row_bytes;
 ghost use mathlib.Core.Path.{_≡_};
 ghost use Prim.Native.Nat.{_<_, _≤_};
+ghost use Rattle.rules.specs.Words.{longest};
 ghost use Rattle.rules.specs.Frames.{badRows};
 ghost use Rattle.rules.specs.Bits.{frameOf, bytesOf};
 ghost use Rattle.laws.specs.Turns.{turned, startOf, stepOf, worked, completed, Whole, Ready};
@@ -13,7 +14,7 @@ ghost use Rattle.frame.specs.Calls.{MendsWord};
 
 // The bit that word k starts at.
 pub(crate) fn start(n: usize, columns: bool, k: usize) -> usize
-    requires { ⌜ (n ≤ 256) × (k ≤ 256) ⌝ }
+    requires { ⌜ (n ≤ longest) × (k ≤ longest) ⌝ }
     ensures { λ r. ⌜ r ≡ startOf n columns k ⌝ }
 {
     if columns { k } else { k * (row_bytes(n) * 8) }
@@ -21,7 +22,7 @@ pub(crate) fn start(n: usize, columns: bool, k: usize) -> usize
 
 // The step from bit to bit of a word.
 pub(crate) fn step(n: usize, columns: bool) -> usize
-    requires { ⌜ n ≤ 256 ⌝ }
+    requires { ⌜ n ≤ longest ⌝ }
     ensures { λ r. ⌜ r ≡ stepOf n columns ⌝ }
 {
     if columns { row_bytes(n) * 8 } else { 1 }
@@ -30,7 +31,7 @@ pub(crate) fn step(n: usize, columns: bool) -> usize
 // How many words in the direction are not codewords.
 pub(crate) fn bad(n: usize, s: &[u8], columns: bool) -> usize
     requires { ⌜ Whole n (now s) ⌝ }
-    ensures { λ r. ⌜ (r ≡ badRows n (turned n columns (frameOf n (now (s .entry))))) × (r ≤ 256) ⌝ }
+    ensures { λ r. ⌜ (r ≡ badRows n (turned n columns (frameOf n (now (s .entry))))) × (r ≤ longest) ⌝ }
 {
     let by = step(n, columns);
     let mut found = 0;

@@ -1,41 +1,68 @@
--- What C gets: the number of `gazenohyri_decode` carries the library's own answer, and the demands hold of the values read out of it.
--- Encode and read have the very contracts of the library.
+-- What C gets: the demands, of what the three functions return and leave in the lent output. Decode's values are those that the
+-- header reads out of its number.
 -- Assumes nothing.
 use mathlib.Core.Path.{_≡_, refl, sym, ap, _∙_}
 use mathlib.Core.List.{List, [], _∷_}
-use Prim.Native.Nat.{ℕ, _≤_}
-use lib.ListN.{length}
+use Prim.Native.Nat.{ℕ, _≤_, _<_}
+use lib.ListN.{length, getD}
+use Rattle.rules.specs.Words.{dataBits}
+use Rattle.rules.specs.Frames.{corner, rowsFirst}
 use Rattle.rules.specs.Bits.{frameOf, bytesOf}
 use Rattle.rules.specs.Passes.{decoded}
-use Rattle.rules.specs.Numbers.{mostAllowed, frameBytes, figuresOf, decodeSaid}
+use Rattle.rules.specs.Numbers.{mostAllowed, dataBytes, frameBytes, Decoded, figuresOf, decodeSaid}
 use Rattle.rules.specs.Packed.{unpackedFigures}
 use Rattle.rules.proofs.Promises.Packing.{packs}
 use Rattle.rules.proofs.Promises.Refusals.{NumberTable, refuses}
+use Rattle.rules.proofs.Promises.EntryRules.{EncodeRule, ReadRule, DecodeRule}
+use Rattle.rules.proofs.Promises.Entries.{entries}
 use Rattle.rules.proofs.Promises.Repair.{Spoiled, repairs}
-use Rattle.frame.specs.declared.decode.Report.{Report}
-use Rattle.frame.specs.Calls.{Encodes, Decodes}
-use Rattle.frame.specs.Said.{reportOf, figures}
+use Rattle.frame.specs.declared.decode.Decoded as code
+use Rattle.frame.specs.Calls.{Encodes, Reads, Decodes}
+use Rattle.frame.specs.Said.{decodedOf, figures}
 use Rattle.frame.proofs.SaidLaws.{figures-said}
+use Rattle.frame.proofs.Demands.{demand₁, demand₂}
 use Rattle.host.specs.Calls.{DecodesPacked}
 
 pub record HostDemands : Type 0 where
-  -- a call is one of the library's decode, and its report's number and values are read out of the number
-  pub report :
-      (n allowance : ℕ) (received output : List ℕ) (r : ℕ) (exit : List ℕ) → DecodesPacked n allowance received output r exit
-      → (q : Report) × Decodes n allowance received output q exit × (unpackedFigures r ≡ figures q)
-  -- demand 1
-  pub answers :
+  -- demand 1: which numbers can occur, and what stands in the output for each
+  pub encode-answers :
+      (n : ℕ) (message output : List ℕ) (r : ℕ) (exit : List ℕ) → Encodes n message output r exit
+      → NumberTable (1 ∷ 2 ∷ 3 ∷ 5 ∷ []) [] r
+      (bytesOf n (rowsFirst n (frameOf (dataBits n) message))) message output exit
+  pub read-answers :
+      (n : ℕ) (frame output : List ℕ) (r : ℕ) (exit : List ℕ) → Reads n frame output r exit
+      → NumberTable (1 ∷ 2 ∷ 3 ∷ 6 ∷ []) [] r
+      (bytesOf (dataBits n) (corner (dataBits n) (frameOf n frame))) frame output exit
+  pub decode-answers :
       (n allowance : ℕ) (received output : List ℕ) (r : ℕ) (exit : List ℕ) → DecodesPacked n allowance received output r exit
       → NumberTable (1 ∷ 2 ∷ 3 ∷ 4 ∷ []) (7 ∷ 8 ∷ []) (unpackedFigures r .number)
       (bytesOf n (decoded n allowance (frameOf n received) .last)) received output exit
-  -- demand 3
+  -- demand 2: each keeps its entry point's rule, which names each number beside its reason
+  pub encode :
+      (n : ℕ) (message output : List ℕ) (r : ℕ) (exit : List ℕ) → Encodes n message output r exit
+      → EncodeRule n message output r exit
+  pub read :
+      (n : ℕ) (frame output : List ℕ) (r : ℕ) (exit : List ℕ) → Reads n frame output r exit → ReadRule n frame output r exit
+  pub decode :
+      (n allowance : ℕ) (received output : List ℕ) (r : ℕ) (exit : List ℕ) → DecodesPacked n allowance received output r exit
+      → (d : Decoded) × (unpackedFigures r ≡ figuresOf d) × DecodeRule n allowance received output d exit
+  -- what was encoded is read back
   pub back :
+      (n : ℕ) (message output frame : List ℕ) → Encodes n message output 0 frame → ((p : ℕ) → getD message p 0 < 256)
+      → (lent : List ℕ) (r : ℕ) (exit : List ℕ) → length lent ≡ dataBytes n → Reads n frame lent r exit
+      → (r ≡ 0) × (exit ≡ message)
+  -- a call of decode is one of the library's, and its values are read out of the number
+  pub library :
+      (n allowance : ℕ) (received output : List ℕ) (r : ℕ) (exit : List ℕ) → DecodesPacked n allowance received output r exit
+      → (q : code.Decoded) × Decodes n allowance received output q exit × (unpackedFigures r ≡ figures q)
+  -- demand 3
+  pub comes-back :
       (n : ℕ) (message blank written : List ℕ) → Encodes n message blank 0 written
       → (received : List ℕ) → Spoiled n written received
       → (allowance : ℕ) (output : List ℕ) (r : ℕ) (exit : List ℕ) → 2 ≤ allowance → allowance ≤ mostAllowed
       → length output ≡ frameBytes n → DecodesPacked n allowance received output r exit
       → (unpackedFigures r .number ≡ 0) × (unpackedFigures r .passes ≤ 2) × (exit ≡ written)
-  -- "whatever satisfies a promise twice is equal"
+  -- two calls alike return and leave the same; of encode and read the library's theorem says so
   pub determined :
       (n allowance : ℕ) (received output : List ℕ) (r r′ : ℕ) (exit exit′ : List ℕ) → DecodesPacked n allowance received output r exit
       → DecodesPacked n allowance received output r′ exit′ → (r ≡ r′) × (exit ≡ exit′)
@@ -51,14 +78,24 @@ read-out n allowance received output r exit e =
 
 pub host-demands : HostDemands
 host-demands = record {
-  report = λ n allowance received output r exit e. (
-    reportOf (decodeSaid n allowance received output),
+  encode-answers = demand₁ .encode;
+  read-answers = demand₁ .read;
+  decode-answers = λ n allowance received output r exit e.
+      rw (read-out n allowance received output r exit e, e .1) (refuses .decode n allowance received output);
+  encode = demand₂ .encode;
+  read = demand₂ .read;
+  decode = λ n allowance received output r exit e. (
+    decodeSaid n allowance received output,
+    read-out n allowance received output r exit e,
+    rw (e .1) (entries .decodes n allowance received output),
+  );
+  back = demand₂ .back;
+  library = λ n allowance received output r exit e. (
+    decodedOf (decodeSaid n allowance received output),
     (refl, e .1),
     read-out n allowance received output r exit e ∙ sym (figures-said (decodeSaid n allowance received output)),
   );
-  answers = λ n allowance received output r exit e.
-      rw (read-out n allowance received output r exit e, e .1) (refuses .decode n allowance received output);
-  back = λ n message blank written w received s allowance output r exit lo hi h e.
+  comes-back = λ n message blank written w received s allowance output r exit lo hi h e.
       let k =
       repairs .back n allowance written received output
       (record { input = message; blank = blank; accepts = sym (w .0); writes = sym (w .1) }) s lo hi h in

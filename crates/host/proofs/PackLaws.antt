@@ -10,7 +10,8 @@ use Rattle.rules.specs.Numbers.{Decoded, figuresOf}
 use Rattle.rules.specs.Packed.{packedFigures, HasRoom}
 use Rattle.frame.specs.declared.decode.Ending.{Ending}
 use Rattle.frame.specs.declared.decode.Report.{Report}
-use Rattle.frame.specs.Said.{reportOf, figures, figuresFor}
+use Rattle.frame.specs.declared.decode.Decoded as code
+use Rattle.frame.specs.Said.{decodedOf, reportFigures, figures, figuresFor}
 use Rattle.frame.proofs.SaidLaws.{figures-said}
 use Rattle.host.specs.Calls.{valuesOf}
 
@@ -34,19 +35,27 @@ or-packed k p f r c h =
 
 -- a report's values, by its ending
 module _ (r : Report) (e : Ending) (is : r .ending ≡ e) where
-  here : figures r ≡ figuresFor e (r .passes) (r .flips) (r .rows) (r .columns)
+  here : reportFigures r ≡ figuresFor e (r .passes) (r .flips) (r .rows) (r .columns)
   here = ap (λ x. figuresFor x (r .passes) (r .flips) (r .rows) (r .columns)) is
 
-  pub fits-here : HasRoom (figures r) → HasRoom (figuresFor e (r .passes) (r .flips) (r .rows) (r .columns))
+  pub fits-here : HasRoom (reportFigures r) → HasRoom (figuresFor e (r .passes) (r .flips) (r .rows) (r .columns))
   fits-here h = rw here at h
 
   pub packed-here :
-      (x : ℕ) → x ≡ packedFigures (figuresFor e (r .passes) (r .flips) (r .rows) (r .columns)) → x ≡ packedFigures (figures r)
+      (x : ℕ) → x ≡ packedFigures (figuresFor e (r .passes) (r .flips) (r .rows) (r .columns)) → x ≡ packedFigures (reportFigures r)
   packed-here x q = q ∙ ap packedFigures (sym here)
 
+-- an answer's values, by its case
+module _ (d e : code.Decoded) (is : d ≡ e) where
+  pub room-of : HasRoom (figures d) → HasRoom (figures e)
+  room-of h = rw is at h
+
+  pub packed-of : (x : ℕ) → x ≡ packedFigures (figures e) → x ≡ packedFigures (figures d)
+  packed-of x q = q ∙ ap (λ y. packedFigures (figures y)) (sym is)
+
 -- what was said, packed
-pub packed-said : (d : Decoded) (r : Report) (x : ℕ) → r ≡ reportOf d → x ≡ packedFigures (figures r) → x ≡ packedFigures (figuresOf d)
+pub packed-said : (d : Decoded) (r : code.Decoded) (x : ℕ) → r ≡ decodedOf d → x ≡ packedFigures (figures r) → x ≡ packedFigures (figuresOf d)
 packed-said d r x is q = q ∙ ap (λ y. packedFigures (figures y)) is ∙ ap packedFigures (figures-said d)
 
-pub fits-said : (d : Decoded) (r : Report) → r ≡ reportOf d → HasRoom (figuresOf d) → HasRoom (figures r)
+pub fits-said : (d : Decoded) (r : code.Decoded) → r ≡ decodedOf d → HasRoom (figuresOf d) → HasRoom (figures r)
 fits-said d r is h = rw (is, figures-said d) h

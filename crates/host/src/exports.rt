@@ -1,5 +1,5 @@
 // The three functions of include/gazenohyri.h. They require nothing but what the header says that a caller owes.
-use crate::pack::pack_report;
+use crate::pack::pack_decoded;
 use frame::decode::decode;
 use frame::encode::encode;
 use frame::read::read;
@@ -22,7 +22,7 @@ pub extern "C" fn gazenohyri_decode(
 ) -> u64
     ensures { λ r. ⌜ DecodesPacked n allowance (now (received .entry)) (now (frame .entry)) r (now (frame .exit)) ⌝ }
 {
-    pack_report(decode(n, allowance, received, frame))
+    pack_decoded(decode(n, allowance, received, frame))
 }
 
 #[no_mangle]

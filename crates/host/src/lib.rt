@@ -1,3 +1,3 @@
 // The desktop's host program is written in C: encode, decode and read on numbers and byte slices.
 pub mod exports;
-pub mod pack;
+mod pack;

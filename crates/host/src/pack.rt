@@ -1,9 +1,13 @@
 // Decode's answer in one number.
+use frame::decode::Decoded;
 use frame::decode::Ending;
 use frame::decode::Report;
+use word::numbers::DONE;
+use word::numbers::SPENT;
+use word::numbers::STUCK;
 ghost use mathlib.Core.Path.{_≡_};
 ghost use Rattle.rules.specs.Packed.{packedFigures, HasRoom};
-ghost use Rattle.frame.specs.Said.{figures};
+ghost use Rattle.frame.specs.Said.{reportFigures, figures};
 ghost use Rattle.host.specs.Calls.{valuesOf};
 
 fn pack(number: u32, passes: usize, flips: usize, rows: usize, columns: usize) -> u64
@@ -17,17 +21,27 @@ fn pack(number: u32, passes: usize, flips: usize, rows: usize, columns: usize) -
         | ((columns as u64) << 48)
 }
 
-// What is not given is zero: no rows and columns where it succeeded, and a refusal has its number alone.
-pub(crate) fn pack_report(r: Report) -> u64
-    requires { ⌜ HasRoom (figures r) ⌝ }
-    ensures { λ x. ⌜ x ≡ packedFigures (figures r) ⌝ }
+// What is not given is zero: no rows and columns where it succeeded.
+fn pack_report(r: Report) -> u64
+    requires { ⌜ HasRoom (reportFigures r) ⌝ }
+    ensures { λ x. ⌜ x ≡ packedFigures (reportFigures r) ⌝ }
 {
     let ending = r.ending;
     match ending {
-        Ending::Clean => pack(0, r.passes, r.flips, 0, 0),
-        Ending::Repaired => pack(0, r.passes, r.flips, 0, 0),
-        Ending::Stuck => pack(7, r.passes, r.flips, r.rows, r.columns),
-        Ending::Spent => pack(8, r.passes, r.flips, r.rows, r.columns),
-        Ending::Refused(k) => pack(k, 0, 0, 0, 0),
+        Ending::Clean => pack(DONE, r.passes, r.flips, 0, 0),
+        Ending::Repaired => pack(DONE, r.passes, r.flips, 0, 0),
+        Ending::Stuck => pack(STUCK, r.passes, r.flips, r.rows, r.columns),
+        Ending::Spent => pack(SPENT, r.passes, r.flips, r.rows, r.columns),
+    }
+}
+
+// A refusal has its number alone.
+pub(crate) fn pack_decoded(d: Decoded) -> u64
+    requires { ⌜ HasRoom (figures d) ⌝ }
+    ensures { λ x. ⌜ x ≡ packedFigures (figures d) ⌝ }
+{
+    match d {
+        Decoded::Refused(k) => pack(k, 0, 0, 0, 0),
+        Decoded::Ended(r) => pack_report(r),
     }
 }

@@ -6,6 +6,7 @@ use lib.ListN.{length, getD, set}
 use Rattle.algebra.specs.Xor.{_⊕_}
 use Rattle.algebra.specs.Tables.{tab}
 use Rattle.algebra.specs.Words.{Word, bit}
+use Rattle.rules.specs.Words.{shortest, longest}
 use Rattle.rules.specs.Bits.{bitAt}
 
 -- bit j of the word that starts at bit `start` and goes by `step`
@@ -15,14 +16,14 @@ bitsAt s start step j = bitAt s (start + j * step)
 unfoldable pub wordAt : ℕ → List ℕ → ℕ → ℕ → Word
 wordAt n s start step = tab n (bitsAt s start step)
 
--- the bytes of the longest frame
-abbrev pub longest : ℕ
-longest = 8192
+-- the bytes of the greatest frame
+abbrev pub mostBytes : ℕ
+mostBytes = 8192
 
--- a word of a permitted length lies within the buffer, which is no longer than the longest frame; its bits differ in place
+-- a word of a permitted length lies within the buffer, which is no longer than the greatest frame; its bits differ in place
 abbrev pub Inside : ℕ → List ℕ → ℕ → ℕ → Type 0
 Inside n s start step =
-    (18 ≤ n) × (n ≤ 256) × (length s ≤ longest) × (1 ≤ step) × (start + (n - 1) * step < length s * 8)
+    (shortest ≤ n) × (n ≤ longest) × (length s ≤ mostBytes) × (1 ≤ step) × (start + (n - 1) * step < length s * 8)
 
 -- bit x negated
 unfoldable pub flipAt : List ℕ → ℕ → List ℕ

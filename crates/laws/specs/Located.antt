@@ -6,6 +6,13 @@ use Rattle.algebra.specs.Tables.{tab}
 use Rattle.rules.specs.Field.{power}
 use Rattle.rules.specs.Words.{values, within, Answer, asAnswer}
 
+-- every remainder lies below the first of these, and all checks below the second
+abbrev pub remaindersEnd : ℕ
+remaindersEnd = 65536
+
+abbrev pub checksEnd : ℕ
+checksEnd = 131072
+
 -- the fewest places, at most two, whose values ⊕ to c; so `answer n w` is `located n (checks n w)`
 unfoldable pub located : ℕ → ℕ → Answer
 located n c = asAnswer (within 2 (values n) c)

@@ -7,7 +7,7 @@ use lib.Dec.{ltb}
 use lib.ListN.{length, take}
 use Rattle.algebra.specs.Tables.{tab}
 use Rattle.algebra.specs.Words.{Word}
-use Rattle.rules.specs.Words.{dataBits, encodeWord}
+use Rattle.rules.specs.Words.{shortest, longest, dataBits, encodeWord}
 use Rattle.rules.specs.Frames.{Frame, row, cell, transposed}
 use Rattle.rules.specs.Bits.{stride, squareBytes, frameOf, bytesOf}
 
@@ -42,9 +42,9 @@ completed n w = encodeWord (take (dataBits n) w)
 unfoldable pub cornered : ℕ → ℕ → Frame → Frame
 cornered m n f = tab n (λ i. tab n (λ j. ltb i m && (ltb j m && cell f i j)))
 
--- a buffer of a frame's size, for an n in 18..256
+-- a buffer of a frame's size, for a permitted n
 abbrev pub Whole : ℕ → List ℕ → Type 0
-Whole n s = (18 ≤ n) × (n ≤ 256) × (length s ≡ squareBytes n)
+Whole n s = (shortest ≤ n) × (n ≤ longest) × (length s ≡ squareBytes n)
 
 -- and its spare bits are zero
 abbrev pub Ready : ℕ → List ℕ → Type 0

@@ -5,7 +5,7 @@ use mathlib.Core.List.{List, [], _∷_}
 use Prim.Native.Nat.{ℕ, _*_}
 use lib.Dec.{eqb, leb, ltb}
 use lib.ListN.{length, take, drop}
-use Rattle.rules.specs.Words.{dataBits, Answer, codeword, onePlace, twoPlaces, beyond, answer, mend}
+use Rattle.rules.specs.Words.{shortest, longest, dataBits, Answer, codeword, onePlace, twoPlaces, beyond, answer, mend}
 use Rattle.rules.specs.Frames.{corner, isFrame, rowsFirst}
 use Rattle.rules.specs.Bits.{rowBytes, squareBytes, wordOf, frameOf, wordBytes, bytesOf, spareOnes}
 use Rattle.rules.specs.Passes.{Ending, clean, repaired, stuck, spent, Outcome, decoded}
@@ -14,9 +14,9 @@ abbrev pub pick {ℓ} : {A : Type ℓ} → Bool → A → A → A
 pick true x y = x
 pick false x y = y
 
--- "n is not 18..256"
+-- n is no permitted length
 abbrev pub outside : ℕ → Bool
-outside n = not (leb 18 n && leb n 256)
+outside n = not (leb shortest n && leb n longest)
 
 -- "allowance is not 1..32"
 abbrev pub mostAllowed : ℕ

@@ -16,9 +16,19 @@ use Rattle.rules.specs.Field.{poly}
 unfoldable pub g : ℕ
 g = poly (16 ∷ 14 ∷ 13 ∷ 11 ∷ 10 ∷ 9 ∷ 8 ∷ 6 ∷ 5 ∷ 1 ∷ 0 ∷ [])
 
--- "k = n − 17 data bits"
+-- the lengths that a word may have
+abbrev pub shortest : ℕ
+shortest = 18
+
+abbrev pub longest : ℕ
+longest = 256
+
+-- the bits of a word that are no data: the remainder's 16 and the parity bit
+abbrev pub checkBits : ℕ
+checkBits = 17
+
 abbrev pub dataBits : ℕ → ℕ
-dataBits n = n - 17
+dataBits n = n - checkBits
 
 -- "For j from 0 to n − 2, bit j is the coefficient of z^(n−2−j)."
 unfoldable pub remainder : ℕ → Word → ℕ

@@ -27,7 +27,7 @@ number-said (answered (rules.onePlace p)) = refl
 number-said (answered (rules.twoPlaces p q)) = refl
 number-said (answered rules.beyond) = refl
 
-answer-beyond : (a : rules.Answer) → answerOf a ≡ Beyond → a ≡ rules.beyond
+pub answer-beyond : (a : rules.Answer) → answerOf a ≡ Beyond → a ≡ rules.beyond
 answer-beyond rules.codeword e = absurd (let z : _≡_ {A = ℕ} 0 1 = cc in omega arith)
 answer-beyond (rules.onePlace p) e = absurd (let z : _≡_ {A = ℕ} 0 1 = cc in omega arith)
 answer-beyond (rules.twoPlaces p q) e = absurd (let z : _≡_ {A = ℕ} 0 1 = cc in omega arith)

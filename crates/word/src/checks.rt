@@ -7,23 +7,27 @@ ghost use Rattle.algebra.specs.Tables.{num};
 ghost use Rattle.algebra.specs.Remainder.{shift, isOdd};
 ghost use Rattle.rules.specs.Words.{g, checks};
 ghost use Rattle.laws.specs.InPlace.{wordAt, Inside};
+ghost use Rattle.laws.specs.Located.{remaindersEnd, checksEnd};
 
 // z^16+z^14+z^13+z^11+z^10+z^9+z^8+z^6+z^5+z+1, bit i for z^i.
 const G: u32 = 0x16f63;
 
+// z^16, that is the first number that is no remainder.
+const REMAINDERS_END: u32 = 65536;
+
 // The remainder r with one more coefficient behind it.
 fn shifted(r: u32, b: u32) -> u32
-    requires { ⌜ (r < 65536) × (b < 2) ⌝ }
-    ensures { λ x. ⌜ (x ≡ shift 16 g r (isOdd b)) × (x < 65536) ⌝ }
+    requires { ⌜ (r < remaindersEnd) × (b < 2) ⌝ }
+    ensures { λ x. ⌜ (x ≡ shift 16 g r (isOdd b)) × (x < remaindersEnd) ⌝ }
 {
     let x = 2 * r + b;
-    if x < 65536 { x } else { x ^ G }
+    if x < REMAINDERS_END { x } else { x ^ G }
 }
 
 // The word starts at bit `start` and goes by `step`.
 pub fn checks(n: usize, s: &[u8], start: usize, step: usize) -> u32
     requires { ⌜ Inside n (now s) start step ⌝ }
-    ensures { λ r. ⌜ (r ≡ checks n (wordAt n (now (s .entry)) start step)) × (r < 131072) ⌝ }
+    ensures { λ r. ⌜ (r ≡ checks n (wordAt n (now (s .entry)) start step)) × (r < checksEnd) ⌝ }
 {
     let mut remainder: u32 = 0;
     let mut ones: u32 = 0;

@@ -2,11 +2,15 @@
 use crate::bits::word_byte;
 use crate::locate::Answer;
 use crate::mend::mend;
+use crate::numbers::BAD_INPUT_LENGTH;
+use crate::numbers::BAD_N;
+use crate::numbers::BAD_OUTPUT_LENGTH;
 use crate::sizes::outside;
 use crate::sizes::row_bytes;
 ghost use mathlib.Core.Path.{_≡_};
 ghost use Prim.Native.Nat.{_≤_};
 ghost use lib.ListN.{length};
+ghost use Rattle.rules.specs.Words.{longest};
 ghost use Rattle.rules.specs.Bits.{rowBytes, wordOf, wordBytes};
 ghost use Rattle.word.specs.Calls.{DecodesWord};
 
@@ -17,7 +21,7 @@ pub enum Said {
 
 // The word of n bits at the start of `from`, its spare bits zero.
 fn copy_word(n: usize, from: &[u8], to: &mut [u8])
-    requires { ⌜ (n ≤ 256) × (length (now from) ≡ rowBytes n) × (length (now to) ≡ rowBytes n) ⌝ }
+    requires { ⌜ (n ≤ longest) × (length (now from) ≡ rowBytes n) × (length (now to) ≡ rowBytes n) ⌝ }
     ensures { λ _. ⌜ now (to .exit) ≡ wordBytes n (wordOf n (now (from .entry)) 0) ⌝ }
 {
     for b in 0..to.len() {
@@ -30,13 +34,13 @@ pub fn decode_word(n: usize, received: &[u8], word: &mut [u8]) -> Said
     ensures { λ r. ⌜ DecodesWord n (now (received .entry)) (now (word .entry)) r (now (word .exit)) ⌝ }
 {
     if outside(n) {
-        return Said::Refused(1);
+        return Said::Refused(BAD_N);
     }
     if received.len() != row_bytes(n) {
-        return Said::Refused(2);
+        return Said::Refused(BAD_INPUT_LENGTH);
     }
     if word.len() != row_bytes(n) {
-        return Said::Refused(3);
+        return Said::Refused(BAD_OUTPUT_LENGTH);
     }
     copy_word(n, received, word);
     let answer = mend(n, word, 0, 1);

@@ -1,4 +1,5 @@
 // From the checks of a word to its answer, by the values of the remainder at a and a^3.
+use crate::sizes::CHECK_BITS;
 use field::log;
 use field::power;
 use field::product;
@@ -7,7 +8,8 @@ ghost use mathlib.Core.Bool.{true, false};
 ghost use Prim.Native.Nat.{_+_, _≤_, _<_};
 ghost use Rattle.word.specs.Said.{answerOf};
 ghost use Rattle.word.specs.Locates.{Locates};
-ghost use Rattle.laws.specs.Located.{located, Sums};
+ghost use Rattle.rules.specs.Words.{shortest, longest};
+ghost use Rattle.laws.specs.Located.{remaindersEnd, checksEnd, located, Sums};
 ghost use Rattle.laws.specs.Search.{NoSingle, Single, Partner};
 
 pub enum Answer {
@@ -24,13 +26,13 @@ pub struct PowerSums {
 
 // The values of a remainder at a and at a^3.
 fn power_sums(remainder: u32) -> PowerSums
-    requires { ⌜ remainder < 65536 ⌝ }
+    requires { ⌜ remainder < remaindersEnd ⌝ }
     ensures { λ r. ⌜ Sums remainder (r .s1) (r .s3) ⌝ }
 {
     let mut left = remainder;
     let mut s1: u8 = 0;
     let mut s3: u8 = 0;
-    for i in 0..16 {
+    for i in 0..CHECK_BITS - 1 {
         if left % 2 == 1 {
             s1 = s1 ^ power(i);
             s3 = s3 ^ power(3 * i);
@@ -42,7 +44,7 @@ fn power_sums(remainder: u32) -> PowerSums
 
 // The place whose own values these are, the parity bit's being zero; n where there is none.
 fn one_place(n: usize, s1: u8, s3: u8) -> usize
-    requires { ⌜ (18 ≤ n) × (n ≤ 256) ⌝ }
+    requires { ⌜ (shortest ≤ n) × (n ≤ longest) ⌝ }
     ensures { λ p. ⌜ Single n s1 s3 p ⌝ }
 {
     if product(product(s1, s1), s1) != s3 {
@@ -60,7 +62,7 @@ fn one_place(n: usize, s1: u8, s3: u8) -> usize
 
 // An odd number of places: one, or more than two.
 fn odd_places(n: usize, s1: u8, s3: u8) -> Answer
-    requires { ⌜ (18 ≤ n) × (n ≤ 256) ⌝ }
+    requires { ⌜ (shortest ≤ n) × (n ≤ longest) ⌝ }
     ensures { λ r. ⌜ Locates n true s1 s3 r ⌝ }
 {
     let p = one_place(n, s1, s3);
@@ -73,7 +75,7 @@ fn odd_places(n: usize, s1: u8, s3: u8) -> Answer
 
 // The place after p with which p gives the two sums; n where there is none.
 fn partner(n: usize, s1: u8, s3: u8, p: usize) -> usize
-    requires { ⌜ (n ≤ 256) × (p + 1 < n) ⌝ }
+    requires { ⌜ (n ≤ longest) × (p + 1 < n) ⌝ }
     ensures { λ q. ⌜ Partner n s1 s3 p q ⌝ }
 {
     let e = n - 2 - p;
@@ -94,7 +96,7 @@ fn partner(n: usize, s1: u8, s3: u8, p: usize) -> usize
 
 // Two places, neither of them the parity bit: each tried in turn as the lower one.
 fn two_places(n: usize, s1: u8, s3: u8) -> Answer
-    requires { ⌜ (18 ≤ n) × (n ≤ 256) × NoSingle n s1 s3 ⌝ }
+    requires { ⌜ (shortest ≤ n) × (n ≤ longest) × NoSingle n s1 s3 ⌝ }
     ensures { λ r. ⌜ Locates n false s1 s3 r ⌝ }
 {
     for p in 0..n - 1 {
@@ -108,7 +110,7 @@ fn two_places(n: usize, s1: u8, s3: u8) -> Answer
 
 // An even number of places: none, the parity bit and one other, two others, or more than two.
 fn even_places(n: usize, s1: u8, s3: u8) -> Answer
-    requires { ⌜ (18 ≤ n) × (n ≤ 256) ⌝ }
+    requires { ⌜ (shortest ≤ n) × (n ≤ longest) ⌝ }
     ensures { λ r. ⌜ Locates n false s1 s3 r ⌝ }
 {
     let p = one_place(n, s1, s3);
@@ -123,7 +125,7 @@ fn even_places(n: usize, s1: u8, s3: u8) -> Answer
 }
 
 pub fn locate(n: usize, checks: u32) -> Answer
-    requires { ⌜ (18 ≤ n) × (n ≤ 256) × (checks < 131072) ⌝ }
+    requires { ⌜ (shortest ≤ n) × (n ≤ longest) × (checks < checksEnd) ⌝ }
     ensures { λ r. ⌜ r ≡ answerOf (located n checks) ⌝ }
 {
     let sums = power_sums(checks / 2);

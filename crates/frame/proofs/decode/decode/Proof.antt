@@ -48,45 +48,33 @@ all-passed c = accept _ _ _ _ (all-sizes (c .before .before)) (sym (c .before .n
 outside-requires : tie.Need-outside-requires
 outside-requires c κs = search needs
 
-only-requires : tie.Need-only-requires
-only-requires c κs = search needs
-
 returns : tie.Need-returns
-returns c = refusal-said _ _ _ _ _ _ (c .only .ensures) (refused-1 _ _ _ _ (sym (c .before .before .outside .ensures) ∙ c .before .if1 .taken))
+returns c = refusal-said _ _ _ _ _ (refused-1 _ _ _ _ (sym (c .before .outside .ensures) ∙ c .if1 .taken))
 
 square-bytes-requires : tie.Need-square-bytes-requires
 square-bytes-requires c κs = small c
 
-only-requires-2 : tie.Need-only-requires-2
-only-requires-2 c κs = search needs
-
 returns-2 : tie.Need-returns-2
 returns-2 c =
-    refusal-said _ _ _ _ _ _ (c .only2 .ensures)
-    (refused-2 _ _ _ _ (passed-1 (c .before .before .before)) (λ e. c .before .if2 .taken (e ∙ sym (c .before .before .square-bytes .ensures))))
+    refusal-said _ _ _ _ _
+    (refused-2 _ _ _ _ (passed-1 (c .before .before)) (λ e. c .if2 .taken (e ∙ sym (c .before .square-bytes .ensures))))
 
 square-bytes-requires-2 : tie.Need-square-bytes-requires-2
 square-bytes-requires-2 c κs = small (c .before .before)
 
-only-requires-3 : tie.Need-only-requires-3
-only-requires-3 c κs = search needs
-
 returns-3 : tie.Need-returns-3
 returns-3 c =
-    refusal-said _ _ _ _ _ _ (c .only3 .ensures)
-    (refused-3 _ _ _ _ (passed-1 (c .before .before .before .before .before)) (passed-2 (c .before .before .before))
-    (λ e. c .before .if3 .taken (e ∙ sym (c .before .before .square-bytes2 .ensures))))
+    refusal-said _ _ _ _ _
+    (refused-3 _ _ _ _ (passed-1 (c .before .before .before .before)) (passed-2 (c .before .before))
+    (λ e. c .if3 .taken (e ∙ sym (c .before .square-bytes2 .ensures))))
 
 not-allowed-requires : tie.Need-not-allowed-requires
 not-allowed-requires c κs = search needs
 
-only-requires-4 : tie.Need-only-requires-4
-only-requires-4 c κs = search needs
-
 returns-4 : tie.Need-returns-4
 returns-4 c =
-    refusal-said _ _ _ _ _ _ (c .only4 .ensures)
-    (refused-4 _ _ _ _ (all-sizes (c .before .before .before)) (sym (c .before .before .not-allowed .ensures) ∙ c .before .if4 .taken))
+    refusal-said _ _ _ _ _
+    (refused-4 _ _ _ _ (all-sizes (c .before .before)) (sym (c .before .not-allowed .ensures) ∙ c .if4 .taken))
 
 copy-corner-requires : tie.Need-copy-corner-requires
 copy-corner-requires c κs =
@@ -133,16 +121,12 @@ decode-spec =
     tie.close
     (tie.spec
     outside-requires
-    only-requires
     returns
     square-bytes-requires
-    only-requires-2
     returns-2
     square-bytes-requires-2
-    only-requires-3
     returns-3
     not-allowed-requires
-    only-requires-4
     returns-4
     copy-corner-requires
     repair-requires

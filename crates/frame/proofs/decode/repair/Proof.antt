@@ -85,8 +85,8 @@ bad-requires-2 c κs = search needs
 add-if1 : tie.Need-add-if1 Inv-loop2 μ-loop2 Inv-loop μ-loop
 add-if1 c = search needs
 
-only-requires : tie.Need-only-requires Inv-loop2 μ-loop2 Inv-loop μ-loop
-only-requires c κs = search needs
+clean-requires : tie.Need-clean-requires Inv-loop2 μ-loop2 Inv-loop μ-loop
+clean-requires c κs = search needs
 
 same-length : tie.Need-same-length Inv-loop2 μ-loop2 Inv-loop μ-loop
 same-length c = search needs
@@ -96,7 +96,7 @@ returns c =
     let b = c .before .before in
     let q = b .before .before .before .before .before in
     let d = reported (ended-clean _ _ (q .args .s .now) _ _ (q .pre .0) (b .before .before .bad .ensures .0) (b .bad2 .ensures .0) (c .before .if1 .taken)) in
-    (c .only .ensures ∙ d .0, d .1)
+    (c .clean .ensures ∙ d .0, d .1)
 
 loop-holds : tie.Need-loop-holds Inv-loop2 μ-loop2 Inv-loop μ-loop
 loop-holds c =
@@ -185,7 +185,7 @@ repair-spec =
     bad-requires
     bad-requires-2
     add-if1
-    only-requires
+    clean-requires
     same-length
     returns
     loop-holds

@@ -10,8 +10,8 @@ use Rattle.host.proofs.exports.gazenohyri_decode.Tie as tie
 decode-requires : tie.Need-decode-requires
 decode-requires c κs = search needs
 
-pack-report-requires : tie.Need-pack-report-requires
-pack-report-requires c κs =
+pack-decoded-requires : tie.Need-pack-decoded-requires
+pack-decoded-requires c κs =
     let a = c .before .before .before .before .before .before .args in
     fits-said (decodeSaid (a .n) (a .allowance) (a .received .now) (a .frame .now)) _ (c .before .before .decode .ensures .0)
     (packs .fits (a .n) (a .allowance) (a .received .now) (a .frame .now))
@@ -23,9 +23,9 @@ returns : tie.Need-returns
 returns c =
     let a = c .before .before .before .before .before .before .before .args in
     let d = c .before .before .before .decode .ensures in (
-      packed-said (decodeSaid (a .n) (a .allowance) (a .received .now) (a .frame .now)) _ _ (d .0) (c .pack-report .ensures),
+      packed-said (decodeSaid (a .n) (a .allowance) (a .received .now) (a .frame .now)) _ _ (d .0) (c .pack-decoded .ensures),
       d .1,
     )
 
 pub gazenohyri-decode-spec : {M : Type 1} → statement M
-gazenohyri-decode-spec = tie.close (tie.spec decode-requires pack-report-requires same-length returns)
+gazenohyri-decode-spec = tie.close (tie.spec decode-requires pack-decoded-requires same-length returns)

@@ -1,7 +1,7 @@
--- `pack::pack_report` meets its contract: each ending's values are those of `figures`.
+-- `pack::pack_report` meets its contract: each ending's values are those of `reportFigures`.
 -- Assumes nothing.
 use borrow.Author.Needs.{needs}
-use Rattle.frame.specs.declared.decode.Ending.the-variants.{Clean, Repaired, Stuck, Spent, Refused}
+use Rattle.frame.specs.declared.decode.Ending.the-variants.{Clean, Repaired, Stuck, Spent}
 use Rattle.host.proofs.PackLaws.{fits-here, packed-here}
 use Rattle.host.proofs.pack.pack_report.Statement.{statement}
 use Rattle.host.proofs.pack.pack_report.Tie as tie
@@ -30,14 +30,6 @@ enum-told-4 c = search needs
 pack-requires-4 : tie.Need-pack-requires-4
 pack-requires-4 c κs = fits-here (c .before .before .args .r) Spent (c .enum-told4 .given .1) (c .before .before .pre)
 
-enum-known-ending : tie.Need-enum-known-ending
-enum-known-ending c = search needs
-
-pack-requires-5 : tie.Need-pack-requires-5
-pack-requires-5 c κs =
-    let g = c .before .ending .given in
-    fits-here (c .before .before .before .args .r) (Refused (g .0 .0)) (g .1) (c .before .before .before .pre)
-
 returns : tie.Need-returns
 returns c = packed-here (c .before .before .before .args .r) Clean (c .before .enum-told .given .1) _ (c .pack .ensures)
 
@@ -49,11 +41,6 @@ returns-3 c = packed-here (c .before .before .before .args .r) Stuck (c .before 
 
 returns-4 : tie.Need-returns-4
 returns-4 c = packed-here (c .before .before .before .args .r) Spent (c .before .enum-told4 .given .1) _ (c .pack4 .ensures)
-
-returns-5 : tie.Need-returns-5
-returns-5 c =
-    let g = c .before .before .ending .given in
-    packed-here (c .before .before .before .before .args .r) (Refused (g .0 .0)) (g .1) _ (c .pack5 .ensures)
 
 pub pack-report-spec : {M : Type 1} → statement M
 pack-report-spec =
@@ -67,10 +54,7 @@ pack-report-spec =
     pack-requires-3
     enum-told-4
     pack-requires-4
-    enum-known-ending
-    pack-requires-5
     returns
     returns-2
     returns-3
-    returns-4
-    returns-5)
+    returns-4)
