@@ -94,7 +94,7 @@ module _
         go (inl z) = absurd (unit≢ (steps-nonzero i unit (sym e ∙ z)))
         go (inr p) = steps-same (p .0) i (sym (p .1) ∙ e) y
 
-    zero-times : (x y : F) → x ≡ 𝟘 → product x y ≡ 𝟘
+    pub zero-times : (x y : F) → x ≡ 𝟘 → product x y ≡ 𝟘
     unfolding product pick
     zero-times x y e = go (logs x)
       where

@@ -10,6 +10,7 @@ pub mod Vandermonde
 pub mod PowerSums
 pub mod LogTableLaws
 pub mod RegisterField
+pub mod RegisterProduct
 pub mod PlacesIndependent
 pub mod Field256Laws
 -- Tables, words, remainders

@@ -13,7 +13,7 @@ use Rattle.algebra.specs.Register.{iter, turn}
 use Rattle.algebra.specs.LogTables.{Tables}
 use Rattle.algebra.proofs.XorLaws.{⊕-comm, ⊕-assoc, ⊕-zero, ⊕-self, ⊕-lt}
 use Rattle.algebra.proofs.RegisterLaws.{turn-additive, turn-lt, turn-nonzero, one-lt}
-use Rattle.algebra.proofs.Field.{Sums2, Field2, made, power, power-step}
+use Rattle.algebra.proofs.Field.{Sums2, Field2, made, power, power-step, times-power, zero-times}
 use Rattle.algebra.proofs.LogTableLaws.{tables-small, tables-odd, log-power}
 
 -- the numbers of n digits under ⊕
@@ -98,3 +98,14 @@ module _ (k c : ℕ) (powers logs : List ℕ) (t : Tables k c powers logs) where
   power-value m e =
       ap (λ (x : F). x .0) (power-step (digits (suc k)) (unit k) times times-⊞ times-𝟘 unit≢ find-log e m)
       ∙ place-value (m * e)
+
+  -- the product with a power of a is that many steps, with zero it is zero
+  pub steps-value : (i : ℕ) (x y : F) → x ≡ place i → field ._⊠_ x y .0 ≡ iter i (turn k c) (y .0)
+  unfolding field made
+  steps-value i x y e =
+      ap (λ (z : F). z .0) (times-power (digits (suc k)) (unit k) times times-⊞ times-𝟘 unit≢ find-log i x y e)
+      ∙ next-value k c (tables-small k c powers logs t) i y
+
+  pub none-value : (x y : F) → x ≡ digits (suc k) .𝟘 → field ._⊠_ x y .0 ≡ 0
+  unfolding field made
+  none-value x y e = ap (λ (z : F). z .0) (zero-times (digits (suc k)) (unit k) times times-⊞ times-𝟘 unit≢ find-log x y e)

@@ -1,24 +1,17 @@
--- The powers of a, their logarithms and the product: a power below 255 has one logarithm, and a product adds exponents.
+-- RULES 1: a power below 255 has one logarithm, and the product of two powers adds their exponents.
 -- Assumes nothing.
 use mathlib.Core.Path.{_≡_, refl, sym, ap, ap₂, _∙_}
 use mathlib.Core.Logic.{_≢_}
 use mathlib.Core.Bool.{Bool, true, false}
-use mathlib.Core.List.{List, [], _∷_}
-use Prim.Native.Nat.{ℕ, zero, suc, _+_, _*_, _/_, _%_, _^_, _≤_, _<_}
-use native.Mathlib.Nat.{mul-zero, one-mul, zero-mul, pow-suc}
+use Prim.Native.Nat.{ℕ, zero, suc, _+_, _*_, _/_, _%_, _≤_, _<_}
 use native.Mathlib.Omega.{arith}
 use borrow.Author.Tests.{eqb-true, eqb-false}
 use lib.Dec.{eqb, lit<}
-use lib.ListN.{length, getD}
-use Rattle.algebra.specs.Xor.{_⊕_}
+use lib.ListN.{getD}
 use Rattle.algebra.specs.Register.{iter, turn}
-use Rattle.algebra.specs.Linear.{Additive, lin}
-use Rattle.algebra.specs.Tables.{tab, tabFrom}
 use Rattle.algebra.specs.Field256.{powers, logs}
-use Rattle.algebra.proofs.XorLaws.{⊕-zero, zero-⊕}
-use Rattle.algebra.proofs.LinearLaws.{lin-additive, additive-zero, additive-iter, agree}
-use Rattle.algebra.proofs.RegisterLaws.{turn-additive, iter-add, iter-comm, iter-mul, iter-keeps, iter-lt, iter-nonzero, iter-zero}
-use Rattle.algebra.proofs.TableLaws.{tab-zero, tab-suc, tab-length, tab-at, tab-ext}
+use Rattle.algebra.proofs.RegisterLaws.{iter-add, iter-mul, iter-keeps, iter-lt, iter-nonzero}
+use Rattle.algebra.proofs.RegisterProduct.{multiply, multiply-powers, zero-multiply, multiply-zero}
 use Rattle.algebra.proofs.Field256Laws.{powers256-at, round256, powers256-logs, logs256-lt, power256-injective}
 use Rattle.rules.specs.Field.{poly, timesA, power, exponent, logarithm, product}
 
@@ -116,49 +109,15 @@ logarithm-power e h =
 
 -- ---- the product
 
--- a map by its columns takes 2^m to column m
-lin-column : (cs : List ℕ) (m : ℕ) → m < length cs → lin cs (2 ^ m) ≡ getD cs m 0
-unfolding lin
-lin-column [] m h = absurd (omega arith)
-lin-column (c ∷ cs) zero h = ap₂ _⊕_ (one-mul c) (additive-zero (lin cs) (lin-additive cs)) ∙ ⊕-zero c
-lin-column (c ∷ cs) (suc m) h =
-    let d : 2 ^ suc m % 2 ≡ 0 = omega (arith, pow-suc 2 m) in
-    let q : 2 ^ suc m / 2 ≡ 2 ^ m = omega (arith, pow-suc 2 m) in
-    ap₂ _⊕_ (ap (λ b. b * c) d ∙ zero-mul c) (ap (lin cs) q ∙ lin-column cs m (omega arith)) ∙ zero-⊕ (getD cs m 0)
-
-lin-none : (n y : ℕ) → lin (tab n (λ _. 0)) y ≡ 0
-unfolding lin
-lin-none zero y = ap (λ cs. lin cs y) (tab-zero (λ _. 0))
-lin-none (suc n) y =
-    ap (λ cs. lin cs y) (tab-suc n (λ _. 0)) ∙ ap₂ _⊕_ (mul-zero (y % 2)) (lin-none n (y / 2)) ∙ ⊕-zero 0
-
--- bit m is a^m
-low-powers : tab 8 power ≡ tab 8 (λ m. 2 ^ m)
-unfolding _⊕_ iter turn tab tabFrom poly timesA power
-low-powers = refl
-
-low-power : (m : ℕ) → m < 8 → power m ≡ 2 ^ m
-low-power m h = sym (tab-at 8 power m 0 h) ∙ ap (λ l. getD l m 0) low-powers ∙ tab-at 8 (λ m. 2 ^ m) m 0 h
-
-timesA-additive : Additive timesA
-unfolding timesA poly
-timesA-additive = turn-additive 7 29
-
--- the product with a^i is i times times a
-product-steps : (i y : ℕ) → y < 256 → product (power i) y ≡ iter i timesA y
-unfolding product power
-product-steps i =
-    let cs : List ℕ = tab 8 (λ m. iter m timesA (power i)) in
-    agree 8 (lin cs) (iter i timesA) (lin-additive cs) (additive-iter timesA timesA-additive i)
-    (λ m h.
-    lin-column cs m (omega (arith, tab-length 8 (λ m. iter m timesA (power i))))
-    ∙ tab-at 8 (λ m. iter m timesA (power i)) m 0 h
-    ∙ iter-comm m i timesA 1
-    ∙ ap (iter i timesA) (low-power m h))
+-- the product that the register of 'times a' makes
+product-is : (x y : ℕ) → product x y ≡ multiply 7 29 x y
+unfolding product multiply timesA poly
+product-is x y = refl
 
 pub product-powers : (i j : ℕ) → product (power i) (power j) ≡ power (i + j)
-unfolding power
-product-powers i j = product-steps i (power j) (power-small j) ∙ sym (iter-add i j timesA 1)
+product-powers i j =
+    product-is (power i) (power j) ∙ ap₂ (multiply 7 29) (power-is i) (power-is j)
+    ∙ multiply-powers 7 29 (lit< tt) i j ∙ sym (power-is (i + j))
 
 -- the way by which code multiplies
 pub product-logarithms :
@@ -167,13 +126,10 @@ product-logarithms x y nx ny hx hy =
     ap₂ product (sym (power-logarithm x nx hx)) (sym (power-logarithm y ny hy)) ∙ product-powers (logarithm x) (logarithm y)
 
 pub product-zero-left : (y : ℕ) → product 0 y ≡ 0
-unfolding product timesA poly
-product-zero-left y =
-    ap (λ cs. lin cs y) (tab-ext 8 (λ i. iter i timesA 0) (λ _. 0) (λ i h. iter-zero 7 29 i)) ∙ lin-none 8 y
+product-zero-left y = product-is 0 y ∙ zero-multiply 7 29 y
 
 pub product-zero-right : (x : ℕ) → product x 0 ≡ 0
-unfolding product
-product-zero-right x = let cs : List ℕ = tab 8 (λ i. iter i timesA x) in additive-zero (lin cs) (lin-additive cs)
+product-zero-right x = product-is x 0 ∙ multiply-zero 7 29 x
 
 -- ---- the tables
 

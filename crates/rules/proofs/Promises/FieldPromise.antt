@@ -1,9 +1,9 @@
--- Document 01's sentences on the field, and on g.
+-- RULES 1: the field, its tables, and g.
 -- Assumes nothing.
 use mathlib.Core.Path.{_≡_, refl, _∙_}
 use mathlib.Core.Logic.{_≢_}
 use mathlib.Core.List.{List, [], _∷_}
-use Prim.Native.Nat.{ℕ, _+_, _*_, _≤_, _<_}
+use Prim.Native.Nat.{ℕ, suc, _+_, _*_, _^_, _≤_, _<_}
 use native.Mathlib.Omega.{arith}
 use lib.Dec.{lit<}
 use Rattle.algebra.specs.Xor.{_⊕_}
@@ -14,33 +14,59 @@ use Rattle.algebra.specs.Tables.{tab, tabFrom}
 use Rattle.algebra.specs.Remainder.{binary, times}
 use Rattle.algebra.specs.Sums.{xsum}
 use Rattle.algebra.specs.Field256.{powers, logs}
+use Rattle.algebra.proofs.XorLaws.{⊕-lt, ⊕-assoc, ⊕-comm, ⊕-zero, ⊕-self}
 use Rattle.algebra.proofs.LinearLaws.{lin-additive, agrees}
+use Rattle.algebra.proofs.RegisterLaws.{one-lt}
+use Rattle.algebra.proofs.RegisterProduct.{multiply, multiply-lt, multiply-assoc, multiply-comm, one-multiply, multiply-inverse, multiply-none, multiply-⊕}
 use Rattle.algebra.proofs.Inverse.{rebuilt, inverse-tested}
 use Rattle.algebra.proofs.Field256Laws.{tables256, round256}
 use Rattle.rules.specs.Field.{poly, minimal₁, minimal₃, timesA, power, logarithm, product, valueAt}
 use Rattle.rules.specs.Words.{g}
 use Rattle.rules.proofs.Laws.FieldLaws.{power-is, logarithm-small, logarithm-zero, power-logarithm, product-powers, product-zero-left, product-zero-right}
 
+-- Under ⊕ and this product the numbers below the size are a field. Each is its own opposite, so a difference is a sum.
+pub record IsField (size : ℕ) (product : ℕ → ℕ → ℕ) : Type 0 where
+  -- sums, with 0
+  pub sum-in : (x y : ℕ) → x < size → y < size → x ⊕ y < size
+  pub sum-assoc : (x y z : ℕ) → x ⊕ y ⊕ z ≡ x ⊕ (y ⊕ z)
+  pub sum-comm : (x y : ℕ) → x ⊕ y ≡ y ⊕ x
+  pub sum-zero : (x : ℕ) → x ⊕ 0 ≡ x
+  pub opposite : (x : ℕ) → x ⊕ x ≡ 0
+  -- products, with 1
+  pub product-in : (x y : ℕ) → x < size → y < size → product x y < size
+  pub product-assoc :
+      (x y z : ℕ) → x < size → y < size → z < size → product (product x y) z ≡ product x (product y z)
+  pub product-comm : (x y : ℕ) → x < size → y < size → product x y ≡ product y x
+  pub one-in : 1 < size
+  pub product-one : (x : ℕ) → x < size → product 1 x ≡ x
+  -- every element but 0 has an inverse, and a product is 0 only if a factor is
+  pub inverse : (x : ℕ) → x ≢ 0 → x < size → (y : ℕ) × (y < size) × (product x y ≡ 1)
+  pub no-divisors : (x y : ℕ) → x < size → y < size → product x y ≡ 0 → x ≢ 0 → y ≡ 0
+  -- the product with a sum is the sum of the products
+  pub distributes : (x y z : ℕ) → product x (y ⊕ z) ≡ product x y ⊕ product x z
+
 -- the value at a^r of the polynomial of degree below 8 with the binary digits of x
 unfoldable pub lowValue : ℕ → ℕ → ℕ
 lowValue r x = lin (tab 8 (λ e. power (r * e))) x
 
 pub record FieldPromise : Type 0 where
-  -- "a a root of z^8+z^4+z^3+z^2+1"
+  -- the bytes are a field
+  pub bytes : IsField 256 product
+  -- a is a root of its polynomial
   pub root₁ : valueAt 1 minimal₁ ≡ 0
-  -- "Powers from a^0: 1, 2, 4, 8, 16, 32, 64, 128, 29, 58, 116, 232, 205, 135, 19, 38"
+  -- the first sixteen powers of a, from a^0 on
   pub listed :
       tab 16 power
       ≡ 1 ∷ 2 ∷ 4 ∷ 8 ∷ 16 ∷ 32 ∷ 64 ∷ 128 ∷ 29 ∷ 58 ∷ 116 ∷ 232 ∷ 205 ∷ 135 ∷ 19 ∷ 38 ∷ []
-  -- "a^255 = 1"
+  -- after 255 steps the powers begin again
   pub round : power 255 ≡ 1
-  -- "The field has 256 elements": each but 0 is a power
+  -- each element but 0 is a power
   pub whole : (x : ℕ) → 1 ≤ x → x < 256 → (e : ℕ) × (e < 255) × (power e ≡ x)
-  -- "The minimal polynomial of a^3 is z^8+z^6+z^5+z^4+z^2+z+1."
+  -- a^3 is a root of the second polynomial
   pub root₃ : valueAt 3 minimal₃ ≡ 0
-  -- minimal: no polynomial of a lower degree but 0 has that root
+  -- which is minimal: no polynomial of a lower degree but 0 has that root
   pub least : (x : ℕ) → 1 ≤ x → x < 256 → lowValue 3 x ≢ 0
-  -- "The powers and logarithms are kept as tables .. whose rule is shown once for the whole table."
+  -- the rule of the two tables, shown of each table as a whole
   pub tables : Tables 7 29 powers logs
   -- the logarithm of each byte but 0 is the exponent below 255 of which it is the power; 0 has none, and 0 stands for it
   pub logarithms : (x : ℕ) → x ≢ 0 → x < 256 → (logarithm x < 255) × (power (logarithm x) ≡ x)
@@ -48,8 +74,27 @@ pub record FieldPromise : Type 0 where
   -- the product of two powers is the power of the sum of their exponents, and 0 times anything is 0
   pub products : (i j : ℕ) → product (power i) (power j) ≡ power (i + j)
   pub zeros : (x : ℕ) → (product 0 x ≡ 0) × (product x 0 ≡ 0)
-  -- "The product of the two is g"
+  -- g is the product of the two polynomials
   pub generator : times (poly minimal₁) 0 (binary 9 (poly minimal₃)) ≡ g
+
+-- any register that has tables makes a field
+register-field : (k c : ℕ) (powers logs : List ℕ) → Tables k c powers logs → IsField (2 ^ suc k) (multiply k c)
+register-field k c powers logs t =
+    record {
+      sum-in = λ x y hx hy. ⊕-lt (suc k) hx hy;
+      sum-assoc = ⊕-assoc;
+      sum-comm = ⊕-comm;
+      sum-zero = ⊕-zero;
+      opposite = ⊕-self;
+      product-in = multiply-lt k c powers logs t;
+      product-assoc = multiply-assoc k c powers logs t;
+      product-comm = multiply-comm k c powers logs t;
+      one-in = one-lt k;
+      product-one = one-multiply k c;
+      inverse = multiply-inverse k c powers logs t;
+      no-divisors = multiply-none k c powers logs t;
+      distributes = multiply-⊕ k c;
+    }
 
 -- the columns of the map that takes `lowValue 3` back
 back : List ℕ
@@ -64,9 +109,10 @@ least-here x lo hi e =
     omega arith
 
 pub field-promise : FieldPromise
-unfolding _⊕_ iter turn tab tabFrom xsum poly minimal₁ minimal₃ timesA power valueAt binary times g
+unfolding _⊕_ iter turn tab tabFrom xsum poly minimal₁ minimal₃ timesA power valueAt binary times g product multiply
 field-promise =
     record {
+      bytes = register-field 7 29 powers logs tables256;
       root₁ = refl;
       listed = refl;
       round = power-is 255 ∙ round256;
