@@ -1,4 +1,4 @@
--- The promise about encoding: data has exactly one frame, and encoding gives it, rows first or columns first.
+-- RULES 3: data has exactly one frame, and encoding gives it, rows first or columns first.
 -- Assumes nothing.
 use mathlib.Core.Path.{_≡_, refl, sym, ap, _∙_}
 use mathlib.Core.Bool.{true}
@@ -15,20 +15,20 @@ use Rattle.rules.proofs.Laws.FrameLaws.{Rows, frame-rows, frame-columns
 use Rattle.rules.proofs.Laws.EncodeWordLaws.{encode-length, encode-data, encode-codeword, codeword-unique}
 use Rattle.rules.proofs.Laws.ProductLaws.{rows-carry}
 
--- what document 01 says of encoding the data d to n rows of n bits
+-- what encoding the data d to n rows of n bits gives
 pub record Encoded (n : ℕ) (d : Frame) : Type 0 where
   pub square : Square n (rowsFirst n d)
-  -- "every row and every column a codeword"
+  -- all its rows and columns are codewords
   pub frame : isFrame n (rowsFirst n d) ≡ true
-  -- "Data is k rows of k bits, kept in the frame's upper left corner."
+  -- the data stand in its upper left corner
   pub holds : corner (dataBits n) (rowsFirst n d) ≡ d
-  -- "Encoding rows first or columns first gives the same frame."
+  -- the columns may as well be encoded first
   pub order : columnsFirst n d ≡ rowsFirst n d
   -- no other frame holds this data
   pub only : (f : Frame) → Square n f → isFrame n f ≡ true → corner (dataBits n) f ≡ d → f ≡ rowsFirst n d
 
-abbrev pub Encodes : Type 0
-Encodes = (n : ℕ) (d : Frame) → 18 ≤ n → Square (dataBits n) d → Encoded n d
+abbrev pub EncodingPromise : Type 0
+EncodingPromise = (n : ℕ) (d : Frame) → 18 ≤ n → Square (dataBits n) d → Encoded n d
 
 -- ---- a frame is determined by its data
 
@@ -153,7 +153,7 @@ columns-order n d le s =
     (frame-transposed n f (rowsFirst-square n t le st) (rowsFirst-frame n t le st))
     (corner-transposed n f d s (rowsFirst-holds n t le st))
 
-pub encoding : Encodes
+pub encoding : EncodingPromise
 encoding n d le s = record {
   square = rowsFirst-square n d le s;
   frame = rowsFirst-frame n d le s;
