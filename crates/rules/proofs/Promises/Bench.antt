@@ -101,12 +101,12 @@ table =
     ∷ []
 
 -- every item of a table gets what stands beside it
-abbrev pub Shown : List (Asked × Got) → Type 0
-Shown items = map (λ item. got (item .0)) items ≡ map (λ item. item .1) items
+abbrev pub AsListed : List (Asked × Got) → Type 0
+AsListed items = map (λ item. got (item .0)) items ≡ map (λ item. item .1) items
 
 -- the statement
 abbrev pub Bench : Type 0
-Bench = Shown table
+Bench = AsListed table
 
 -- ---- The proof: antt computes it, each decoding once for what is said and for the output
 
@@ -162,7 +162,7 @@ quick-is (word n s) = go (eqb (wordRefusal n s (nines (rowBytes n))) 0)
     go false = refl
 quick-is (weigh n s) = refl
 
-quickly : (items : List (Asked × Got)) → map (λ item. quick (item .0)) items ≡ map (λ item. item .1) items → Shown items
+quickly : (items : List (Asked × Got)) → map (λ item. quick (item .0)) items ≡ map (λ item. item .1) items → AsListed items
 quickly items h = all items ∙ h
   where
     all : (items : List (Asked × Got)) → map (λ item. got (item .0)) items ≡ map (λ item. quick (item .0)) items
@@ -212,7 +212,7 @@ more =
     ∷ []
 
 pub record MoreItems : Type 0 where
-  pub shown : Shown more
+  pub shown : AsListed more
   pub located : remainder 32 (wordOf 32 three 0) ≡ remainder 32 (wordOf 32 pair 0)
 
 pub more-items : MoreItems

@@ -24,17 +24,17 @@ use Rattle.rules.proofs.Promises.Passes.{passes-promise}
 use Rattle.rules.proofs.Promises.EntryRules.{Reasons, Given, sizes, SpareSet, AllCodewords, encodeReasons, EncodeRule, readReasons, ReadRule, decodeReasons, written, DecodeRule, wordReasons, writtenWord, WordRule, RowRule}
 use Rattle.rules.proofs.Promises.Determined.{frame-all, determined}
 
-abbrev pub figures : ℕ → ℕ → ℕ → ℕ → ℕ → Figures
-figures number p f r c = record { number = number; passes = p; flips = f; rows = r; columns = c }
+abbrev pub fiveFigures : ℕ → ℕ → ℕ → ℕ → ℕ → Figures
+fiveFigures number p f r c = record { number = number; passes = p; flips = f; rows = r; columns = c }
 
 -- the number and the values, case by case: "Passes and flips stand for 0, 7 and 8; rows and columns for 7 and 8; all else is
 -- zero."
 pub record NumbersPromise : Type 0 where
-  pub refused-is : (r : ℕ) → figuresOf (refused r) ≡ figures r 0 0 0 0
-  pub clean-is : (p f r c : ℕ) → figuresOf (ended clean p f r c) ≡ figures 0 p f 0 0
-  pub repaired-is : (p f r c : ℕ) → figuresOf (ended repaired p f r c) ≡ figures 0 p f 0 0
-  pub stuck-is : (p f r c : ℕ) → figuresOf (ended stuck p f r c) ≡ figures 7 p f r c
-  pub spent-is : (p f r c : ℕ) → figuresOf (ended spent p f r c) ≡ figures 8 p f r c
+  pub refused-is : (r : ℕ) → figuresOf (refused r) ≡ fiveFigures r 0 0 0 0
+  pub clean-is : (p f r c : ℕ) → figuresOf (ended clean p f r c) ≡ fiveFigures 0 p f 0 0
+  pub repaired-is : (p f r c : ℕ) → figuresOf (ended repaired p f r c) ≡ fiveFigures 0 p f 0 0
+  pub stuck-is : (p f r c : ℕ) → figuresOf (ended stuck p f r c) ≡ fiveFigures 7 p f r c
+  pub spent-is : (p f r c : ℕ) → figuresOf (ended spent p f r c) ≡ fiveFigures 8 p f r c
   pub word-refused-is : (r : ℕ) → wordNumber (wordRefused r) ≡ r
   -- "word accepted"
   pub codeword-is : wordNumber (answered codeword) ≡ 0
@@ -44,21 +44,21 @@ pub record NumbersPromise : Type 0 where
   pub beyond-is : wordNumber (answered beyond) ≡ 9
 
 -- what is said and the output at exit keep the rule
-abbrev pub Keeps : {A : Type 0} → (A → List ℕ → Type 0) → Exit A → Type 0
-Keeps Rule e = Rule (e .said) (e .output)
+abbrev pub Obeys : {A : Type 0} → (A → List ℕ → Type 0) → Exit A → Type 0
+Obeys Rule e = Rule (e .said) (e .output)
 
 -- whatever keeps the rule is that
 abbrev pub Only : {A : Type 0} → (A → List ℕ → Type 0) → Exit A → Type 0
 Only {A} Rule e = (said : A) (exit : List ℕ) → Rule said exit → (said ≡ e .said) × (exit ≡ e .output)
 
 pub record Entries : Type 0 where
-  pub encodes : (n : ℕ) (input output : List ℕ) → Keeps (EncodeRule n input output) (encode n input output)
+  pub encodes : (n : ℕ) (input output : List ℕ) → Obeys (EncodeRule n input output) (encode n input output)
   pub encodes-only : (n : ℕ) (input output : List ℕ) → Only (EncodeRule n input output) (encode n input output)
-  pub reads : (n : ℕ) (input output : List ℕ) → Keeps (ReadRule n input output) (read n input output)
+  pub reads : (n : ℕ) (input output : List ℕ) → Obeys (ReadRule n input output) (read n input output)
   pub reads-only : (n : ℕ) (input output : List ℕ) → Only (ReadRule n input output) (read n input output)
-  pub decodes : (n allowance : ℕ) (input output : List ℕ) → Keeps (DecodeRule n allowance input output) (decode n allowance input output)
+  pub decodes : (n allowance : ℕ) (input output : List ℕ) → Obeys (DecodeRule n allowance input output) (decode n allowance input output)
   pub decodes-only : (n allowance : ℕ) (input output : List ℕ) → Only (DecodeRule n allowance input output) (decode n allowance input output)
-  pub words : (n : ℕ) (input output : List ℕ) → Keeps (WordRule n input output) (decodeWord n input output)
+  pub words : (n : ℕ) (input output : List ℕ) → Obeys (WordRule n input output) (decodeWord n input output)
   pub words-only : (n : ℕ) (input output : List ℕ) → Only (WordRule n input output) (decodeWord n input output)
   pub rows : (n : ℕ) (input : List ℕ) (i : ℕ) → RowRule n input i (rowPart n input i)
   pub rows-only : (n : ℕ) (input : List ℕ) (i : ℕ) (r : List ℕ) → RowRule n input i r → r ≡ rowPart n input i

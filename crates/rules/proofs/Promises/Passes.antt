@@ -30,8 +30,8 @@ abbrev pub changes : ℕ → Frame → ℕ → ℕ
 changes n f p = differences n (after n f p) (after n f (suc p))
 
 -- "every row and column is a codeword"
-abbrev pub Whole : ℕ → Frame → ℕ → Type 0
-Whole n f p = isFrame n (after n f p) ≡ true
+abbrev pub WholeAfter : ℕ → Frame → ℕ → Type 0
+WholeAfter n f p = isFrame n (after n f p) ≡ true
 
 -- "this is pass 2 or later and it changed no bit"
 abbrev pub Idle : ℕ → Frame → ℕ → Type 0
@@ -42,14 +42,14 @@ pub record Running (n a : ℕ) (f : Frame) (p : ℕ) : Type 0 where
   pub torn : isFrame n f ≡ false
   pub some : 1 ≤ p
   pub allowed : p ≤ a
-  pub before : (q : ℕ) → 1 ≤ q → q < p → (¬ Whole n f q) × (¬ Idle n f q)
+  pub before : (q : ℕ) → 1 ≤ q → q < p → (¬ WholeAfter n f q) × (¬ Idle n f q)
 
 -- "If it is a frame of codewords, it is clean, with 0 passes"; else "the passes end at the first of these that holds"
 abbrev pub Ends : ℕ → ℕ → Frame → ℕ → Ending → Type 0
 Ends n a f p clean = (p ≡ 0) × (isFrame n f ≡ true)
-Ends n a f p repaired = Running n a f p × Whole n f p
-Ends n a f p stuck = Running n a f p × (¬ Whole n f p) × Idle n f p
-Ends n a f p spent = Running n a f p × (¬ Whole n f p) × (¬ Idle n f p) × (p ≡ a)
+Ends n a f p repaired = Running n a f p × WholeAfter n f p
+Ends n a f p stuck = Running n a f p × (¬ WholeAfter n f p) × Idle n f p
+Ends n a f p spent = Running n a f p × (¬ WholeAfter n f p) × (¬ Idle n f p) × (p ≡ a)
 
 -- "for stuck and spent" alone
 abbrev pub left : Ending → ℕ → ℕ
@@ -122,12 +122,12 @@ rule n a f e p x g h eg ex =
 module _ (n a : ℕ) (f : Frame) (some : 1 ≤ a) (torn : isFrame n f ≡ false) where
   -- no pass before pass p ended them
   abbrev Quiet : ℕ → Type 0
-  Quiet p = (q : ℕ) → 1 ≤ q → q < p → (¬ Whole n f q) × (¬ Idle n f q)
+  Quiet p = (q : ℕ) → 1 ≤ q → q < p → (¬ WholeAfter n f q) × (¬ Idle n f q)
 
-  one-more : (p : ℕ) → Quiet p → ¬ Whole n f p → ¬ Idle n f p → Quiet (suc p)
+  one-more : (p : ℕ) → Quiet p → ¬ WholeAfter n f p → ¬ Idle n f p → Quiet (suc p)
   one-more p quiet w i q s l = go (decLt q p)
     where
-      go : Dec (q < p) → (¬ Whole n f q) × (¬ Idle n f q)
+      go : Dec (q < p) → (¬ WholeAfter n f q) × (¬ Idle n f q)
       go (yes h) = quiet q s h
       go (no h) = let e : q ≡ p = omega (arith, h) in rw e (w, i)
 

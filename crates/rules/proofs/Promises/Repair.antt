@@ -71,7 +71,7 @@ BackAt rows =
     (n allowance : ℕ) (written received output : List ℕ) → Written n written → SpoiledAt rows n written received → 2 ≤ allowance
     → allowance ≤ mostAllowed → length output ≡ frameBytes n → Back n allowance written received output
 
-pub record Repairs : Type 0 where
+pub record RepairPromise : Type 0 where
   pub back : BackAt 2
   -- "No two different written frames, spoiled so, can agree."
   pub apart :
@@ -196,7 +196,7 @@ rows-gone-here n written received p q long same = (
         word-ext n (wordOf n s start) (wordOf n t start) (wordOf-length n s start) (wordOf-length n t start)
         (λ j l. wordOf-bit n s start j l ∙ h j l ∙ sym (wordOf-bit n t start j l))
 
-pub repairs : Repairs
+pub repairs : RepairPromise
 repairs =
     record {
       back = back-here;
