@@ -176,33 +176,33 @@ module _
 
 -- ---- the entry point
 
-abbrev pub Answers : ℕ → List ℕ → List ℕ → ℕ → List ℕ → Type 0
-Answers n input output r t = (r ≡ encodeNumber n input output) × (t ≡ encodeOutput n input output)
+abbrev pub EncodedAs : ℕ → List ℕ → List ℕ → ℕ → List ℕ → Type 0
+EncodedAs n input output r t = (r ≡ encodeNumber n input output) × (t ≡ encodeOutput n input output)
 
 module _ (n : ℕ) (input output : List ℕ) where
   -- the checks after the sizes
   abbrev later : RefusalList
   later = drop 3 (encodeRefusals n input output)
 
-  refuses : (r : ℕ) → first (encodeRefusals n input output) ≡ suc r → Answers n input output (suc r) output
+  refuses : (r : ℕ) → first (encodeRefusals n input output) ≡ suc r → EncodedAs n input output (suc r) output
   unfolding encodeNumber
   refuses r e = (sym e, sym (encode-refused n input output (λ z. omega arith)))
 
-  pub answer-1 : outside n ≡ true → Answers n input output 1 output
+  pub answer-1 : outside n ≡ true → EncodedAs n input output 1 output
   answer-1 h = refuses 0 (size-1 n input (dataBytes n) output (frameBytes n) later h)
 
-  pub answer-2 : outside n ≡ false → length input ≢ dataBytes n → Answers n input output 2 output
+  pub answer-2 : outside n ≡ false → length input ≢ dataBytes n → EncodedAs n input output 2 output
   answer-2 o h = refuses 1 (size-2 n input (dataBytes n) output (frameBytes n) later o h)
 
-  pub answer-3 : outside n ≡ false → length input ≡ dataBytes n → length output ≢ frameBytes n → Answers n input output 3 output
+  pub answer-3 : outside n ≡ false → length input ≡ dataBytes n → length output ≢ frameBytes n → EncodedAs n input output 3 output
   answer-3 o i h = refuses 2 (size-3 n input (dataBytes n) output (frameBytes n) later o i h)
 
-  pub answer-5 : Sized n input (dataBytes n) output (frameBytes n) → eqb (spareOnes (dataBits n) input) 0 ≡ false → Answers n input output 5 output
+  pub answer-5 : Sized n input (dataBytes n) output (frameBytes n) → eqb (spareOnes (dataBits n) input) 0 ≡ false → EncodedAs n input output 5 output
   answer-5 f h = refuses 4 (size-later n input (dataBytes n) output (frameBytes n) later f ∙ rw h)
 
   pub answer-0 :
       {t : List ℕ} → Sized n input (dataBytes n) output (frameBytes n) → eqb (spareOnes (dataBits n) input) 0 ≡ true
-      → t ≡ bytesOf n (rowsFirst n (frameOf (dataBits n) input)) → Answers n input output 0 t
+      → t ≡ bytesOf n (rowsFirst n (frameOf (dataBits n) input)) → EncodedAs n input output 0 t
   unfolding encodeOutput
   answer-0 f h e =
       let z : encodeNumber n input output ≡ 0 =

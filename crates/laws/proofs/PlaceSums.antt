@@ -25,6 +25,7 @@ use Rattle.algebra.proofs.RegisterLaws.{iter-lt, one-lt}
 use Rattle.algebra.proofs.RemainderLaws.{powersDown-suc}
 use Rattle.rules.specs.Field.{poly, timesA, power}
 use Rattle.rules.specs.Words.{values, within, asAnswer, beyond}
+use Rattle.rules.proofs.Laws.FieldLaws.{power-is}
 use Rattle.rules.proofs.Laws.CheckLaws.{low, low-small, g-low, values-length, checks-dot}
 use Rattle.rules.proofs.Laws.PowerSumLaws.{columns₁, columns₃, part, part-carried, parts-apart}
 use Rattle.rules.proofs.Laws.SearchLaws.{placesFrom, places-length, Says, within-says}
@@ -35,8 +36,8 @@ use Rattle.laws.specs.Located.{located, valueOf, Sums}
 -- ---- what is located, by the values of the places
 
 -- the value of a place
-abbrev pub valueAt : ℕ → ℕ → ℕ
-valueAt n p = getD (values n) p 0
+abbrev pub placeValue : ℕ → ℕ → ℕ
+placeValue n p = getD (values n) p 0
 
 -- the ⊕ at a word's ones is that over their places
 dot-places :
@@ -61,9 +62,9 @@ module _ (n : ℕ) (h : 18 ≤ n) (b : n ≤ 256) where
       go zero h = absurd (omega arith)
       go (suc m) h = values-length m
 
-  places-value : (w : Word) → length w ≡ n → dot (values n) w ≡ xsum (valueAt n) (placesFrom 0 w)
+  places-value : (w : Word) → length w ≡ n → dot (values n) w ≡ xsum (placeValue n) (placesFrom 0 w)
   places-value w l =
-      dot-places (values n) w 0 (valueAt n) (l ∙ sym long) (λ j. ap (valueAt n) (zero-add j))
+      dot-places (values n) w 0 (placeValue n) (l ∙ sym long) (λ j. ap (placeValue n) (zero-add j))
 
   -- two patterns of at most two ones with one value are the same
   unique : (e u : Word) → length e ≡ n → length u ≡ n → ones e ≤ 2 → ones u ≤ 2 → dot (values n) e ≡ dot (values n) u → e ≡ u
@@ -76,7 +77,7 @@ module _ (n : ℕ) (h : 18 ≤ n) (b : n ≤ 256) where
 
   module _ (c : ℕ) where
     -- whatever at most two places give these checks are what is located
-    pub places-located : (ps : List ℕ) → Rising 0 n ps → length ps ≤ 2 → xsum (valueAt n) ps ≡ c → located n c ≡ asAnswer (some ps)
+    pub places-located : (ps : List ℕ) → Rising 0 n ps → length ps ≤ 2 → xsum (placeValue n) ps ≡ c → located n c ≡ asAnswer (some ps)
     unfolding located
     places-located ps r few d =
         let q = pattern n 0 ps (subst (λ m. Rising 0 m ps) (sym (zero-add n)) r) in
@@ -90,15 +91,15 @@ module _ (n : ℕ) (h : 18 ≤ n) (b : n ≤ 256) where
             (sym qe
             ∙ ap (placesFrom 0)
             (unique e w (le ∙ long) l oe (omega (arith, places-length 0 w, ap length q))
-            (de ∙ sym (places-value w l ∙ ap (xsum (valueAt n)) q ∙ d)))
+            (de ∙ sym (places-value w l ∙ ap (xsum (placeValue n)) q ∙ d)))
             ∙ q)
         go w l q none miss =
             absurd (miss w (l ∙ sym long) (omega (arith, places-length 0 w, ap length q))
-            (places-value w l ∙ ap (xsum (valueAt n)) q ∙ d))
+            (places-value w l ∙ ap (xsum (placeValue n)) q ∙ d))
 
     -- and where there are none, nothing is
     pub none-located :
-        ((ps : List ℕ) → Rising 0 n ps → length ps ≤ 2 → xsum (valueAt n) ps ≢ c) → located n c ≡ beyond
+        ((ps : List ℕ) → Rising 0 n ps → length ps ≤ 2 → xsum (placeValue n) ps ≢ c) → located n c ≡ beyond
     unfolding located asAnswer
     none-located k = ap asAnswer (go (within 2 (values n) c) (within-says 2 (values n) c))
       where
@@ -134,10 +135,10 @@ values-low : (n : ℕ) → values n ≡ map (λ r. 2 * r + 1) (powersDown 16 (2 
 unfolding values
 values-low n = ap (λ p. map (λ r. 2 * r + 1) (powersDown 16 p (n - 1)) ++ 1 ∷ []) g-low
 
-value-front : (n p e : ℕ) → p + e + 2 ≡ n → valueAt n p ≡ 2 * zpower e + 1
+value-front : (n p e : ℕ) → p + e + 2 ≡ n → placeValue n p ≡ 2 * zpower e + 1
 value-front n p e q = ap (λ l. getD l p 0) (values-low n) ∙ front-at p e (n - 1) (omega arith)
 
-value-last : (n p : ℕ) → p + 1 ≡ n → valueAt n p ≡ 1
+value-last : (n p : ℕ) → p + 1 ≡ n → placeValue n p ≡ 1
 value-last n p q =
     let r : n - 1 ≡ p = omega arith in
     ap (λ l. getD l p 0) (values-low n)
@@ -152,17 +153,13 @@ value-additive : (r x y : ℕ) → valueOf r (x ⊕ y) ≡ valueOf r x ⊕ value
 unfolding valueOf
 value-additive r x y = lin-additive (tab 16 (λ i. power (r * i))) x y
 
-pub power-is : (e : ℕ) → iter e (turn 7 29) 1 ≡ power e
-unfolding power timesA poly
-power-is e = refl
-
 -- checks with this parity and these sums
-pub record Made (d o s1 s3 : ℕ) : Type 0 where
+pub record HasSums (d o s1 s3 : ℕ) : Type 0 where
   pub small : d < 131072
   pub parity : d % 2 ≡ o
   pub sums : Sums (d / 2) s1 s3
 
-pub made-only : (d d′ o s1 s3 : ℕ) → Made d o s1 s3 → Made d′ o s1 s3 → d ≡ d′
+pub made-only : (d d′ o s1 s3 : ℕ) → HasSums d o s1 s3 → HasSums d′ o s1 s3 → d ≡ d′
 made-only d d′ o s1 s3 m m′ =
     by-digit
     (parts-apart (d / 2) (d′ / 2) (omega (arith, m .small)) (omega (arith, m′ .small))
@@ -170,12 +167,12 @@ made-only d d′ o s1 s3 m m′ =
     (sym (value-parts (d / 2) .1) ∙ sym (m .sums .1) ∙ m′ .sums .1 ∙ value-parts (d′ / 2) .1))
     (m .parity ∙ sym (m′ .parity))
 
-pub made-same : (d o s1 s3 o′ t1 t3 : ℕ) → Made d o s1 s3 → Made d o′ t1 t3 → (o ≡ o′) × (s1 ≡ t1) × (s3 ≡ t3)
+pub made-same : (d o s1 s3 o′ t1 t3 : ℕ) → HasSums d o s1 s3 → HasSums d o′ t1 t3 → (o ≡ o′) × (s1 ≡ t1) × (s3 ≡ t3)
 made-same d o s1 s3 o′ t1 t3 m m′ =
     (sym (m .parity) ∙ m′ .parity, m .sums .0 ∙ sym (m′ .sums .0), m .sums .1 ∙ sym (m′ .sums .1))
 
 pub made-add :
-    (d o s1 s3 d′ o′ s1′ s3′ : ℕ) → Made d o s1 s3 → Made d′ o′ s1′ s3′ → Made (d ⊕ d′) (o ⊕ o′) (s1 ⊕ s1′) (s3 ⊕ s3′)
+    (d o s1 s3 d′ o′ s1′ s3′ : ℕ) → HasSums d o s1 s3 → HasSums d′ o′ s1′ s3′ → HasSums (d ⊕ d′) (o ⊕ o′) (s1 ⊕ s1′) (s3 ⊕ s3′)
 made-add d o s1 s3 d′ o′ s1′ s3′ m m′ =
     record {
       small = ⊕-lt 17 (m .small) (m′ .small);
@@ -186,15 +183,15 @@ made-add d o s1 s3 d′ o′ s1′ s3′ m m′ =
       );
     }
 
-pub made-none : Made 0 0 0 0
+pub made-none : HasSums 0 0 0 0
 unfolding valueOf lin tab tabFrom power timesA poly iter turn _⊕_
 made-none = record { small = lit< tt; parity = refl; sums = (refl, refl) }
 
-pub made-last : (n p : ℕ) → p + 1 ≡ n → Made (valueAt n p) 1 0 0
+pub made-last : (n p : ℕ) → p + 1 ≡ n → HasSums (placeValue n p) 1 0 0
 unfolding valueOf lin tab tabFrom power timesA poly iter turn _⊕_
 made-last n p q = rw (value-last n p q) (record { small = lit< tt; parity = refl; sums = (refl, refl) })
 
-pub made-front : (n p e : ℕ) → p + e + 2 ≡ n → Made (valueAt n p) 1 (power e) (power (3 * e))
+pub made-front : (n p e : ℕ) → p + e + 2 ≡ n → HasSums (placeValue n p) 1 (power e) (power (3 * e))
 made-front n p e q =
     let z : zpower e < 2 ^ 16 = iter-lt 15 low-small e 1 (one-lt 15) in
     let d : (2 * zpower e + 1) / 2 ≡ zpower e = omega arith in
@@ -205,7 +202,7 @@ made-front n p e q =
       sums = (
         rw d
             (sym
-            (value-parts (zpower e) .0 ∙ part-carried 0 (omega arith) e ∙ ap (λ i. iter i (turn 7 29) 1) (one-mul e) ∙ power-is e)),
-        rw d (sym (value-parts (zpower e) .1 ∙ part-carried 1 (omega arith) e ∙ power-is (3 * e))),
+            (value-parts (zpower e) .0 ∙ part-carried 0 (omega arith) e ∙ ap (λ i. iter i (turn 7 29) 1) (one-mul e) ∙ sym (power-is e))),
+        rw d (sym (value-parts (zpower e) .1 ∙ part-carried 1 (omega arith) e ∙ sym (power-is (3 * e)))),
       );
     })

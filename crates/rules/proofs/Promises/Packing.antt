@@ -25,7 +25,7 @@ use Rattle.rules.proofs.Laws.FlipLaws.{flipsOf, rows-flips, columns-fli
 use Rattle.rules.proofs.Laws.OneOfLaws.{allIn, one-of-range}
 use Rattle.rules.proofs.Laws.NumberLaws.{numbers, first-in, decode-accepts, at-either}
 use Rattle.rules.proofs.Promises.Answers as words
-use Rattle.rules.proofs.Promises.Passes.{after, changes, Ends, left, passes-promise}
+use Rattle.rules.proofs.Promises.Passes.{after, changedBits, Ends, left, passes-promise}
 
 -- ---- The statement
 
@@ -81,7 +81,7 @@ pass-few n f h b s =
     let m = total-most 2 n (flipsOf n f) (λ i l. let k = mend-flips n (row f i) h b (s .1 i l) in omega (arith, k .0, k .1)) in
     omega arith
 
-changes-few : (n : ℕ) (f : Frame) → 18 ≤ n → n ≤ 256 → Square n f → (p : ℕ) → changes n f p ≤ 512
+changes-few : (n : ℕ) (f : Frame) → 18 ≤ n → n ≤ 256 → Square n f → (p : ℕ) → changedBits n f p ≤ 512
 unfolding after
 changes-few n f h b s p = go (isOdd (suc p)) (passes-promise .square n f s p)
   where
@@ -118,7 +118,7 @@ decoded-few n a f h b some most s =
     let o : Outcome = decoded n a f in
     let r = passes-promise .holds n a f some in
     let p = passes-few n a f (o .ending) (o .passes) (r .ends) in
-    let x = total-most 512 (o .passes) (changes n f) (λ i l. changes-few n f h b s i) in
+    let x = total-most 512 (o .passes) (changedBits n f) (λ i l. changes-few n f h b s i) in
     let g : Frame = after n f (o .passes) in
     record {
       passes = omega arith;

@@ -26,8 +26,8 @@ after n f zero = f
 after n f (suc p) = cond (isOdd (suc p)) (passRows n (after n f p)) (passColumns n (after n f p))
 
 -- how many bits the pass behind the first p changes
-abbrev pub changes : ℕ → Frame → ℕ → ℕ
-changes n f p = differences n (after n f p) (after n f (suc p))
+abbrev pub changedBits : ℕ → Frame → ℕ → ℕ
+changedBits n f p = differences n (after n f p) (after n f (suc p))
 
 -- "every row and column is a codeword"
 abbrev pub WholeAfter : ℕ → Frame → ℕ → Type 0
@@ -35,7 +35,7 @@ WholeAfter n f p = isFrame n (after n f p) ≡ true
 
 -- "this is pass 2 or later and it changed no bit"
 abbrev pub Idle : ℕ → Frame → ℕ → Type 0
-Idle n f p = (2 ≤ p) × (changes n f (p - 1) ≡ 0)
+Idle n f p = (2 ≤ p) × (changedBits n f (p - 1) ≡ 0)
 
 -- the received frame is none of codewords, p passes are made of an allowance of a, and no pass before ended them
 pub record Running (n a : ℕ) (f : Frame) (p : ℕ) : Type 0 where
@@ -63,7 +63,7 @@ left spent x = x
 pub record PassRule (n a : ℕ) (f : Frame) (o : Outcome) : Type 0 where
   pub ends : Ends n a f (o .passes) (o .ending)
   pub last-is : o .last ≡ after n f (o .passes)
-  pub flips-are : o .flips ≡ total (o .passes) (changes n f)
+  pub flips-are : o .flips ≡ total (o .passes) (changedBits n f)
   pub rows-are : o .rows ≡ left (o .ending) (badRows n (after n f (o .passes)))
   pub columns-are : o .columns ≡ left (o .ending) (badColumns n (after n f (o .passes)))
 
@@ -112,7 +112,7 @@ carried n e p x g =
     record { ending = e; passes = p; flips = x; rows = left e (badRows n g); columns = left e (badColumns n g); last = g }
 
 rule :
-    (n a : ℕ) (f : Frame) (e : Ending) (p x : ℕ) (g : Frame) → Ends n a f p e → g ≡ after n f p → x ≡ total p (changes n f)
+    (n a : ℕ) (f : Frame) (e : Ending) (p x : ℕ) (g : Frame) → Ends n a f p e → g ≡ after n f p → x ≡ total p (changedBits n f)
     → PassRule n a f (carried n e p x g)
 rule n a f e p x g h eg ex =
     let r = ap (λ y. left e (badRows n y)) eg in
@@ -132,21 +132,21 @@ module _ (n a : ℕ) (f : Frame) (some : 1 ≤ a) (torn : isFrame n f ≡ false)
       go (no h) = let e : q ≡ p = omega (arith, h) in rw e (w, i)
 
   -- one pass more, behind m of them with x flips and the frame g
-  module _ (m x : ℕ) (g : Frame) (eg : g ≡ after n f m) (ex : x ≡ total m (changes n f)) (quiet : Quiet (suc m)) where
+  module _ (m x : ℕ) (g : Frame) (eg : g ≡ after n f m) (ex : x ≡ total m (changedBits n f)) (quiet : Quiet (suc m)) where
     abbrev h : Frame
     h = pass n (suc m) g
 
     abbrev changed : ℕ
-    changed = changes n f (suc m - 1)
+    changed = changedBits n f (suc m - 1)
 
     frame-is : h ≡ after n f (suc m)
     frame-is = ap (pass n (suc m)) eg ∙ pass-after n f m
 
-    count-is : counted n f x g h ≡ total (suc m) (changes n f)
-    count-is = ap₂ _+_ ex (ap₂ (differences n) eg frame-is) ∙ sym (total-last m (changes n f))
+    count-is : counted n f x g h ≡ total (suc m) (changedBits n f)
+    count-is = ap₂ _+_ ex (ap₂ (differences n) eg frame-is) ∙ sym (total-last m (changedBits n f))
 
     changed-is : changed ≡ differences n g h
-    changed-is = let e : suc m - 1 ≡ m = omega arith in ap (changes n f) e ∙ sym (ap₂ (differences n) eg frame-is)
+    changed-is = let e : suc m - 1 ≡ m = omega arith in ap (changedBits n f) e ∙ sym (ap₂ (differences n) eg frame-is)
 
     step :
         (l : ℕ) → m + suc l ≡ a → (Quiet (suc (suc m)) → PassRule n a f (passesFrom n f l (suc m) (counted n f x g h) h))
@@ -171,7 +171,7 @@ module _ (n a : ℕ) (f : Frame) (some : 1 ≤ a) (torn : isFrame n f ≡ false)
 
   -- the passes behind the first m, of which l are left
   runs :
-      (l m x : ℕ) (g : Frame) → m + l ≡ a → g ≡ after n f m → x ≡ total m (changes n f) → Quiet (suc m)
+      (l m x : ℕ) (g : Frame) → m + l ≡ a → g ≡ after n f m → x ≡ total m (changedBits n f) → Quiet (suc m)
       → PassRule n a f (passesFrom n f l m x g)
   runs zero m x g s eg ex quiet =
       let here = quiet m (omega arith) (omega arith) in
@@ -187,10 +187,10 @@ holds-of : (n a : ℕ) (f : Frame) → 1 ≤ a → PassRule n a f (decoded n a f
 holds-of n a f some = start (isFrame n f) refl
   where
     start : (b : Bool) → isFrame n f ≡ b → PassRule n a f (decoded n a f)
-    start true w = rw (decoded-clean n a f w) (rule n a f clean 0 0 f (refl, w) (after-none n f) (sym (total-none (changes n f))))
+    start true w = rw (decoded-clean n a f w) (rule n a f clean 0 0 f (refl, w) (after-none n f) (sym (total-none (changedBits n f))))
     start false w =
         rw (decoded-passes n a f w)
-        (runs n a f some w a 0 0 f (omega arith) (after-none n f) (sym (total-none (changes n f))) (λ q s l. absurd (omega arith)))
+        (runs n a f some w a 0 0 f (omega arith) (after-none n f) (sym (total-none (changedBits n f))) (λ q s l. absurd (omega arith)))
 
 -- ---- Nothing else does
 
@@ -203,15 +203,15 @@ named false false false = spent
 
 module _ (n a : ℕ) (f : Frame) where
   abbrev ending-at : ℕ → Ending
-  ending-at p = named (isFrame n f) (isFrame n (after n f p)) (isStuck p (changes n f (p - 1)))
+  ending-at p = named (isFrame n f) (isFrame n (after n f p)) (isStuck p (changedBits n f (p - 1)))
 
   ending-is : (p : ℕ) (e : Ending) → Ends n a f p e → e ≡ ending-at p
-  ending-is p clean h = λ i. named (sym (h .1) i) (isFrame n (after n f p)) (isStuck p (changes n f (p - 1)))
-  ending-is p repaired h = λ i. named (sym (h .0 .torn) i) (sym (h .1) i) (isStuck p (changes n f (p - 1)))
+  ending-is p clean h = λ i. named (sym (h .1) i) (isFrame n (after n f p)) (isStuck p (changedBits n f (p - 1)))
+  ending-is p repaired h = λ i. named (sym (h .0 .torn) i) (sym (h .1) i) (isStuck p (changedBits n f (p - 1)))
   ending-is p stuck h =
-      λ i. named (sym (h .0 .torn) i) (sym (no-true .0 (h .1)) i) (sym (is-stuck p (changes n f (p - 1)) (h .2)) i)
+      λ i. named (sym (h .0 .torn) i) (sym (no-true .0 (h .1)) i) (sym (is-stuck p (changedBits n f (p - 1)) (h .2)) i)
   ending-is p spent h =
-      let t = no-true .0 (λ t. h .2 (stuck-is p (changes n f (p - 1)) t)) in
+      let t = no-true .0 (λ t. h .2 (stuck-is p (changedBits n f (p - 1)) t)) in
       λ i. named (sym (h .0 .torn) i) (sym (no-true .0 (h .1)) i) (sym t i)
 
   -- where p passes ended them, no more are made
@@ -228,7 +228,7 @@ module _ (n a : ℕ) (f : Frame) where
   at-most p q e spent g h = omega (arith, no-more p e g q (h .0))
 
   abbrev told : Ending → ℕ → Outcome
-  told e p = carried n e p (total p (changes n f)) (after n f p)
+  told e p = carried n e p (total p (changedBits n f)) (after n f p)
 
   told-is : (o : Outcome) → PassRule n a f o → o ≡ told (o .ending) (o .passes)
   told-is o r =
