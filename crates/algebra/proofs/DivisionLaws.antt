@@ -15,7 +15,7 @@ use lib.ListN.{length, replicate, length-append, length-replicate}
 use Rattle.algebra.specs.Xor.{_⊕_}
 use Rattle.algebra.specs.Tables.{num}
 use Rattle.algebra.specs.Words.{Word, _⊻_, kept}
-use Rattle.algebra.specs.Remainder.{shift, register, value, times, Multiple}
+use Rattle.algebra.specs.Remainder.{shift, register, fromCoefficients, times, Multiple}
 use Rattle.algebra.proofs.XorLaws.{⊕-zero, zero-⊕, ⊕-swap, ⊕-div, xors}
 use Rattle.algebra.proofs.RegisterLaws.{⊕-double}
 use Rattle.algebra.proofs.WordLaws.{kept-xor}
@@ -112,8 +112,8 @@ module _ (k c : ℕ) (small : c < 2 ^ suc k) where
           (true, rw (le-ltb x (2 ^ suc k) (omega arith)) e)
 
   -- the register's remainder, and the quotient by the steps at which g was taken off
-  divided : (r : ℕ) (w : Word) → (q : Word) × ((a : ℕ) → value (r ⊕ a) w ≡ register (suc k) gen r w ⊕ times gen a q)
-  unfolding value register times
+  divided : (r : ℕ) (w : Word) → (q : Word) × ((a : ℕ) → fromCoefficients (r ⊕ a) w ≡ register (suc k) gen r w ⊕ times gen a q)
+  unfolding fromCoefficients register times
   divided r [] = ([], λ a. refl)
   divided r (b ∷ w) =
       let r′ : ℕ = shift (suc k) gen r b in
@@ -121,17 +121,17 @@ module _ (k c : ℕ) (small : c < 2 ^ suc k) where
       let i = divided r′ w in (
         t .0 ∷ i .0,
         λ a.
-            ap (λ x. value x w)
+            ap (λ x. fromCoefficients x w)
             (step r a b ∙ ap (λ x. x ⊕ 2 * a) (sym (t .1))
             ∙ (let e : r′ ⊕ kept (t .0) gen ⊕ 2 * a ≡ r′ ⊕ (2 * a ⊕ kept (t .0) gen) = simp xors in e))
             ∙ i .1 (2 * a ⊕ kept (t .0) gen),
       )
 
   -- the register ends at zero exactly if the polynomial is a multiple of g
-  pub divides : (w : Word) → (register (suc k) (2 ^ suc k + c) 0 w ≡ 0) ↔ Multiple (2 ^ suc k + c) (value 0 w)
+  pub divides : (w : Word) → (register (suc k) (2 ^ suc k + c) 0 w ≡ 0) ↔ Multiple (2 ^ suc k + c) (fromCoefficients 0 w)
   divides w =
       let d = divided 0 w in
-      let e : value 0 w ≡ register (suc k) gen 0 w ⊕ times gen 0 (d .0) = ap (λ x. value x w) (sym (zero-⊕ 0)) ∙ d .1 0 in (
+      let e : fromCoefficients 0 w ≡ register (suc k) gen 0 w ⊕ times gen 0 (d .0) = ap (λ x. fromCoefficients x w) (sym (zero-⊕ 0)) ∙ d .1 0 in (
         λ z. (d .0, e ∙ ap (λ x. x ⊕ times gen 0 (d .0)) z ∙ zero-⊕ (times gen 0 (d .0))),
         λ m.
             let s = multiples-add gen (m .0) (d .0) in

@@ -36,9 +36,9 @@ pub record Field2 (F : Type 0) : Type 0 where
   pub 𝟙≢𝟘 : 𝟙 ≢ 𝟘
 
 -- x to the m
-unfoldable pub power : {F : Type 0} → Field2 F → F → ℕ → F
-power K x zero = K .𝟙
-power K x (suc m) = K ._⊠_ x (power K x m)
+unfoldable pub powerOf : {F : Type 0} → Field2 F → F → ℕ → F
+powerOf K x zero = K .𝟙
+powerOf K x (suc m) = K ._⊠_ x (powerOf K x m)
 
 module _
     {F : Type 0} (S : Sums2 F) (unit : F) (next : F → F)
@@ -174,9 +174,9 @@ module _
         }
 
     -- the powers of a power of a
-    pub power-step : (i m : ℕ) → power made (iter i next unit) m ≡ iter (m * i) next unit
-    unfolding power made iter
+    pub power-step : (i m : ℕ) → powerOf made (iter i next unit) m ≡ iter (m * i) next unit
+    unfolding powerOf made iter
     power-step i zero = ap (λ (j : ℕ). iter j next unit) (sym (zero-mul i))
     power-step i (suc m) =
-        times-power i (iter i next unit) (power made (iter i next unit) m) refl ∙ ap (iter i next) (power-step i m)
+        times-power i (iter i next unit) (powerOf made (iter i next unit) m) refl ∙ ap (iter i next) (power-step i m)
         ∙ sym (iter-add i (m * i) next unit) ∙ ap (λ (j : ℕ). iter j next unit) (add-comm i (m * i) ∙ sym (suc-mul m i))

@@ -9,7 +9,7 @@ use Rattle.algebra.specs.LogTables.{follows, inverts, Tables}
 use Rattle.algebra.specs.Field256.{powers, logs}
 use Rattle.algebra.proofs.LogTableLaws.{powers-at, round, powers-logs, logs-lt, power-injective}
 use Rattle.algebra.proofs.Field.{Field2}
-use Rattle.algebra.proofs.RegisterField.{field}
+use Rattle.algebra.proofs.RegisterField.{registerField}
 
 -- the one place where the tables are computed with
 pub tables256 : Tables 7 29 powers logs
@@ -18,7 +18,7 @@ tables256 =
     record { small = tt; odd = tt; count = tt; count-logs = tt; chain = tt; power-of-log = tt; log-of-power = tt }
 
 pub field256 : Field2 (Fin 256)
-field256 = field 7 29 powers logs tables256
+field256 = registerField 7 29 powers logs tables256
 
 pub powers256-at : (i : ℕ) → i < 255 → getD powers i 0 ≡ iter i (turn 7 29) 1
 powers256-at = powers-at 7 29 powers logs tables256

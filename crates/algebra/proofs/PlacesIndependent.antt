@@ -13,9 +13,9 @@ use Rattle.algebra.specs.Sums.{Distinct, AllN, Different, xsum}
 use Rattle.algebra.specs.LogTables.{Tables}
 use Rattle.algebra.proofs.RegisterLaws.{iter-nonzero, one-lt}
 use Rattle.algebra.proofs.LogTableLaws.{tables-small, tables-odd, power-injective}
-use Rattle.algebra.proofs.Field.{Field2, power}
-use Rattle.algebra.proofs.RegisterField.{field, place, place-value, power-value, sum-value, zero-value}
-use Rattle.algebra.proofs.Vandermonde.{total, all-map, all-both}
+use Rattle.algebra.proofs.Field.{Field2, powerOf}
+use Rattle.algebra.proofs.RegisterField.{registerField, place, place-value, power-value, sum-value, zero-value}
+use Rattle.algebra.proofs.Vandermonde.{fieldSum, all-map, all-both}
 use Rattle.algebra.proofs.PowerSums.{power-sum, few}
 
 module _ (k c : ℕ) (powers logs : List ℕ) (tables : Tables k c powers logs) where
@@ -23,7 +23,7 @@ module _ (k c : ℕ) (powers logs : List ℕ) (tables : Tables k c powers logs) 
   F = Fin (2 ^ suc k)
 
   abbrev K : Field2 F
-  K = field k c powers logs tables
+  K = registerField k c powers logs tables
 
   abbrev a^ : ℕ → F
   a^ = place k c powers logs tables
@@ -52,10 +52,10 @@ module _ (k c : ℕ) (powers logs : List ℕ) (tables : Tables k c powers logs) 
 
   -- a power sum of the field is a sum of register states
   sums : (m : ℕ) (es : List ℕ) → power-sum K a^ m es .0 ≡ xsum (λ e. iter (m * e) (turn k c) 1) es
-  unfolding total xsum
+  unfolding fieldSum xsum
   sums m [] = zero-value k c powers logs tables
   sums m (e ∷ es) =
-      sum-value k c powers logs tables (power K (a^ e) m) (power-sum K a^ m es)
+      sum-value k c powers logs tables (powerOf K (a^ e) m) (power-sum K a^ m es)
       ∙ ap₂ _⊕_ (power-value k c powers logs tables m e) (sums m es)
 
   -- no caller sees the field: exponents, register states and ⊕ alone

@@ -9,12 +9,12 @@ use native.Mathlib.Decide.{ℕ-discrete}
 use native.Mathlib.Omega.{arith}
 use lib.ListN.{length}
 use Rattle.algebra.specs.Sums.{All, Distinct}
-use Rattle.algebra.proofs.Field.{Field2, power}
-use Rattle.algebra.proofs.Vandermonde.{total, ⊠-𝟘, ⊞-⊠, ⊞-swap, vandermonde}
+use Rattle.algebra.proofs.Field.{Field2, powerOf}
+use Rattle.algebra.proofs.Vandermonde.{fieldSum, ⊠-𝟘, ⊞-⊠, ⊞-swap, vandermonde}
 
 -- the m-th power sum
 abbrev pub power-sum : {A F : Type 0} → Field2 F → (A → F) → ℕ → List A → F
-power-sum K x m ps = total K (λ p. power K (x p) m) ps
+power-sum K x m ps = fieldSum K (λ p. powerOf K (x p) m) ps
 
 module _ {F : Type 0} (K : Field2 F) where
   infixl 65 _⊞_
@@ -28,23 +28,23 @@ module _ {F : Type 0} (K : Field2 F) where
       ∙ ap₂ _⊞_ (⊠-⊞ a a b) (⊠-⊞ b a b ∙ ⊞-comm (b ⊠ a) (b ⊠ b) ∙ ap (λ (w : F). b ⊠ b ⊞ w) (⊠-comm b a))
       ∙ ⊞-swap K (a ⊠ a) (a ⊠ b) (b ⊠ b) (a ⊠ b) ∙ ap (λ (w : F). a ⊠ a ⊞ b ⊠ b ⊞ w) (⊞-self (a ⊠ b)) ∙ ⊞-𝟘 (a ⊠ a ⊞ b ⊠ b)
 
-  pub power-add : (x : F) (m n : ℕ) → power K x (m + n) ≡ power K x m ⊠ power K x n
-  unfolding power
-  power-add x zero n = ap (power K x) (zero-add n) ∙ sym (𝟙-⊠ (power K x n))
+  pub power-add : (x : F) (m n : ℕ) → powerOf K x (m + n) ≡ powerOf K x m ⊠ powerOf K x n
+  unfolding powerOf
+  power-add x zero n = ap (powerOf K x) (zero-add n) ∙ sym (𝟙-⊠ (powerOf K x n))
   power-add x (suc m) n =
-      ap (power K x) (suc-add m n) ∙ ap (λ (w : F). x ⊠ w) (power-add x m n) ∙ sym (⊠-assoc x (power K x m) (power K x n))
+      ap (powerOf K x) (suc-add m n) ∙ ap (λ (w : F). x ⊠ w) (power-add x m n) ∙ sym (⊠-assoc x (powerOf K x m) (powerOf K x n))
 
   module _ {A : Type 0} where
-    pub total-square : (f : A → F) (ps : List A) → total K f ps ⊠ total K f ps ≡ total K (λ p. f p ⊠ f p) ps
-    unfolding total
-    total-square f [] = ⊠-𝟘 K 𝟘
-    total-square f (p ∷ ps) = square-⊞ (f p) (total K f ps) ∙ ap (λ (w : F). f p ⊠ f p ⊞ w) (total-square f ps)
+    pub fieldSum-square : (f : A → F) (ps : List A) → fieldSum K f ps ⊠ fieldSum K f ps ≡ fieldSum K (λ p. f p ⊠ f p) ps
+    unfolding fieldSum
+    fieldSum-square f [] = ⊠-𝟘 K 𝟘
+    fieldSum-square f (p ∷ ps) = square-⊞ (f p) (fieldSum K f ps) ∙ ap (λ (w : F). f p ⊠ f p ⊞ w) (fieldSum-square f ps)
 
     -- the sum of the 2m-th powers is the square of the sum of the m-th
     pub sum-double : (x : A → F) (m : ℕ) (ps : List A) → power-sum K x (m + m) ps ≡ power-sum K x m ps ⊠ power-sum K x m ps
     sum-double x m ps =
-        ap (λ (f : A → F). total K f ps) (fun-ext (λ p. power-add (x p) m m))
-        ∙ sym (total-square (λ p. power K (x p) m) ps)
+        ap (λ (f : A → F). fieldSum K f ps) (fun-ext (λ p. power-add (x p) m m))
+        ∙ sym (fieldSum-square (λ p. powerOf K (x p) m) ps)
 
     module _ (t : ℕ) (x : A → F) (ps : List A) (odd : (r : ℕ) → r < t → power-sum K x (2 * r + 1) ps ≡ 𝟘) where
       -- an even one is the square of the half's, so all the first 2 * t vanish with the odd ones
@@ -64,12 +64,12 @@ module _ {F : Type 0} (K : Field2 F) where
 
       -- no 2 * t or fewer different places other than zero have all their first t odd power sums zero
       pub few : Distinct x ps → All (λ p. x p ≢ 𝟘) ps → length ps ≤ 2 * t → ps ≡ []
-      unfolding power
+      unfolding powerOf
       few d n h = none ps n (vandermonde K x ps d x sums)
         where
-          sums : (m : ℕ) → m < length ps → total K (λ p. power K (x p) m ⊠ x p) ps ≡ 𝟘
+          sums : (m : ℕ) → m < length ps → fieldSum K (λ p. powerOf K (x p) m ⊠ x p) ps ≡ 𝟘
           sums m hm =
-              ap (λ (f : A → F). total K f ps) (fun-ext (λ p. ⊠-comm (power K (x p) m) (x p)))
+              ap (λ (f : A → F). fieldSum K f ps) (fun-ext (λ p. ⊠-comm (powerOf K (x p) m) (x p)))
               ∙ all-vanish (suc m) (suc m) (omega arith) (omega arith) (omega arith)
 
           none : (qs : List A) → All (λ p. x p ≢ 𝟘) qs → All (λ p. x p ≡ 𝟘) qs → qs ≡ []

@@ -20,7 +20,7 @@ use Rattle.algebra.proofs.RegisterLaws.{turn-additive, iter-add, iter-c
 use Rattle.algebra.proofs.TableLaws.{tab-zero, tab-suc, tab-length, tab-at, tab-ext}
 use Rattle.algebra.proofs.LogTableLaws.{tables-small, log-power, logs-lt, round}
 use Rattle.algebra.proofs.Field.{Field2}
-use Rattle.algebra.proofs.RegisterField.{digits, field, zero-value, place, place-value, find-log, steps-value, none-value}
+use Rattle.algebra.proofs.RegisterField.{numberSums, registerField, zero-value, place, place-value, find-log, steps-value, none-value}
 
 -- x times y: y is the sum of the a^i at its ones, so the product is the sum of x a^i at them
 unfoldable pub multiply : ℕ → ℕ → ℕ → ℕ → ℕ
@@ -93,12 +93,12 @@ module _ (k c : ℕ) (powers logs : List ℕ) (t : Tables k c powers logs) where
   F = Fin (2 ^ suc k)
 
   abbrev K : Field2 F
-  K = field k c powers logs t
+  K = registerField k c powers logs t
 
   multiply-value : (x y : F) → multiply k c (x .0) (y .0) ≡ K ._⊠_ x y .0
   multiply-value x y = go (find-log k c powers logs t x)
     where
-      go : (x ≡ digits (suc k) .𝟘) ⊎ ((i : ℕ) × (x ≡ place k c powers logs t i)) → multiply k c (x .0) (y .0) ≡ K ._⊠_ x y .0
+      go : (x ≡ numberSums (suc k) .𝟘) ⊎ ((i : ℕ) × (x ≡ place k c powers logs t i)) → multiply k c (x .0) (y .0) ≡ K ._⊠_ x y .0
       go (inl e) =
           ap (λ (m : F). multiply k c (m .0) (y .0)) e ∙ zero-multiply k c (y .0) ∙ sym (none-value k c powers logs t x y e)
       go (inr p) =

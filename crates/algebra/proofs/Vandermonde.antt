@@ -6,7 +6,7 @@ use Prim.Native.Nat.{ℕ, suc, _<_}
 use native.Mathlib.Omega.{arith}
 use lib.ListN.{length}
 use Rattle.algebra.specs.Sums.{All, Distinct}
-use Rattle.algebra.proofs.Field.{Field2, power}
+use Rattle.algebra.proofs.Field.{Field2, powerOf}
 
 pub all-map :
     {A : Type 0} {P Q : A → Type 0} → ((a : A) → P a → Q a) → (ps : List A) → All P ps → All Q ps
@@ -19,9 +19,9 @@ all-both f [] h g = tt
 all-both f (a ∷ ps) h g = (f a (h .0) (g .0), all-both f ps (h .1) (g .1))
 
 -- the sum of f over a list
-unfoldable pub total : {A F : Type 0} → Field2 F → (A → F) → List A → F
-total K f [] = K .𝟘
-total K f (a ∷ ps) = K ._⊞_ (f a) (total K f ps)
+unfoldable pub fieldSum : {A F : Type 0} → Field2 F → (A → F) → List A → F
+fieldSum K f [] = K .𝟘
+fieldSum K f (a ∷ ps) = K ._⊞_ (f a) (fieldSum K f ps)
 
 module _ {F : Type 0} (K : Field2 F) where
   infixl 65 _⊞_
@@ -62,32 +62,32 @@ module _ {F : Type 0} (K : Field2 F) where
       sym (⊞-𝟘 x) ∙ ap (λ (w : F). x ⊞ w) (sym (⊞-self y)) ∙ sym (⊞-assoc x y y) ∙ ap (λ (w : F). w ⊞ y) h ∙ ⊞-comm 𝟘 y ∙ ⊞-𝟘 y
 
   module _ {A : Type 0} where
-    pub total-⊞ : (f g : A → F) (ps : List A) → total K (λ a. f a ⊞ g a) ps ≡ total K f ps ⊞ total K g ps
-    unfolding total
-    total-⊞ f g [] = sym (⊞-self 𝟘)
-    total-⊞ f g (a ∷ ps) =
-        ap (λ (w : F). f a ⊞ g a ⊞ w) (total-⊞ f g ps) ∙ ⊞-swap (f a) (g a) (total K f ps) (total K g ps)
+    pub fieldSum-⊞ : (f g : A → F) (ps : List A) → fieldSum K (λ a. f a ⊞ g a) ps ≡ fieldSum K f ps ⊞ fieldSum K g ps
+    unfolding fieldSum
+    fieldSum-⊞ f g [] = sym (⊞-self 𝟘)
+    fieldSum-⊞ f g (a ∷ ps) =
+        ap (λ (w : F). f a ⊞ g a ⊞ w) (fieldSum-⊞ f g ps) ∙ ⊞-swap (f a) (g a) (fieldSum K f ps) (fieldSum K g ps)
 
-    pub total-⊠ : (z : F) (f : A → F) (ps : List A) → total K (λ a. z ⊠ f a) ps ≡ z ⊠ total K f ps
-    unfolding total
-    total-⊠ z f [] = sym (⊠-𝟘 z)
-    total-⊠ z f (a ∷ ps) = ap (λ (w : F). z ⊠ f a ⊞ w) (total-⊠ z f ps) ∙ sym (⊠-⊞ z (f a) (total K f ps))
+    pub fieldSum-⊠ : (z : F) (f : A → F) (ps : List A) → fieldSum K (λ a. z ⊠ f a) ps ≡ z ⊠ fieldSum K f ps
+    unfolding fieldSum
+    fieldSum-⊠ z f [] = sym (⊠-𝟘 z)
+    fieldSum-⊠ z f (a ∷ ps) = ap (λ (w : F). z ⊠ f a ⊞ w) (fieldSum-⊠ z f ps) ∙ sym (⊠-⊞ z (f a) (fieldSum K f ps))
 
-    pub total-𝟘 : (f : A → F) (ps : List A) → All (λ a. f a ≡ 𝟘) ps → total K f ps ≡ 𝟘
-    unfolding total
-    total-𝟘 f [] h = refl
-    total-𝟘 f (a ∷ ps) h = ap₂ _⊞_ (h .0) (total-𝟘 f ps (h .1)) ∙ ⊞-self 𝟘
+    pub fieldSum-𝟘 : (f : A → F) (ps : List A) → All (λ a. f a ≡ 𝟘) ps → fieldSum K f ps ≡ 𝟘
+    unfolding fieldSum
+    fieldSum-𝟘 f [] h = refl
+    fieldSum-𝟘 f (a ∷ ps) h = ap₂ _⊞_ (h .0) (fieldSum-𝟘 f ps (h .1)) ∙ ⊞-self 𝟘
 
     -- weights times (x ⊞ z): the next power sum and z times this one
     shift :
         (x c : A → F) (z : F) (m : ℕ) (ps : List A)
-        → total K (λ a. power K (x a) m ⊠ ((x a ⊞ z) ⊠ c a)) ps
-        ≡ total K (λ a. power K (x a) (suc m) ⊠ c a) ps ⊞ z ⊠ total K (λ a. power K (x a) m ⊠ c a) ps
-    unfolding power
+        → fieldSum K (λ a. powerOf K (x a) m ⊠ ((x a ⊞ z) ⊠ c a)) ps
+        ≡ fieldSum K (λ a. powerOf K (x a) (suc m) ⊠ c a) ps ⊞ z ⊠ fieldSum K (λ a. powerOf K (x a) m ⊠ c a) ps
+    unfolding powerOf
     shift x c z m ps =
-        ap (λ (f : A → F). total K f ps) (fun-ext each)
-        ∙ total-⊞ (λ a. power K (x a) (suc m) ⊠ c a) (λ a. z ⊠ (power K (x a) m ⊠ c a)) ps
-        ∙ ap (λ (w : F). total K (λ a. power K (x a) (suc m) ⊠ c a) ps ⊞ w) (total-⊠ z (λ a. power K (x a) m ⊠ c a) ps)
+        ap (λ (f : A → F). fieldSum K f ps) (fun-ext each)
+        ∙ fieldSum-⊞ (λ a. powerOf K (x a) (suc m) ⊠ c a) (λ a. z ⊠ (powerOf K (x a) m ⊠ c a)) ps
+        ∙ ap (λ (w : F). fieldSum K (λ a. powerOf K (x a) (suc m) ⊠ c a) ps ⊞ w) (fieldSum-⊠ z (λ a. powerOf K (x a) m ⊠ c a) ps)
       where
         one-by-one : (u v w y : F) → u ⊠ ((v ⊞ w) ⊠ y) ≡ v ⊠ u ⊠ y ⊞ w ⊠ (u ⊠ y)
         one-by-one u v w y =
@@ -96,14 +96,14 @@ module _ {F : Type 0} (K : Field2 F) where
 
         each :
             (a : A)
-            → power K (x a) m ⊠ ((x a ⊞ z) ⊠ c a) ≡ power K (x a) (suc m) ⊠ c a ⊞ z ⊠ (power K (x a) m ⊠ c a)
-        each a = one-by-one (power K (x a) m) (x a) z (c a)
+            → powerOf K (x a) m ⊠ ((x a ⊞ z) ⊠ c a) ≡ powerOf K (x a) (suc m) ⊠ c a ⊞ z ⊠ (powerOf K (x a) m ⊠ c a)
+        each a = one-by-one (powerOf K (x a) m) (x a) z (c a)
 
     -- by induction: times (x ⊞ x b) the weights lose b, and one sum is left over
     pub vandermonde :
         (x : A → F) (ps : List A) → Distinct x ps → (c : A → F)
-        → ((m : ℕ) → m < length ps → total K (λ a. power K (x a) m ⊠ c a) ps ≡ 𝟘) → All (λ a. c a ≡ 𝟘) ps
-    unfolding total power
+        → ((m : ℕ) → m < length ps → fieldSum K (λ a. powerOf K (x a) m ⊠ c a) ps ≡ 𝟘) → All (λ a. c a ≡ 𝟘) ps
+    unfolding fieldSum powerOf
     vandermonde x [] d c h = tt
     vandermonde x (b ∷ ps) d c h =
         (first (rest (vandermonde x ps (d .1) c′ sums)), rest (vandermonde x ps (d .1) c′ sums))
@@ -117,10 +117,10 @@ module _ {F : Type 0} (K : Field2 F) where
         head : (u : F) → u ⊠ ((x b ⊞ x b) ⊠ c b) ≡ 𝟘
         head u = ap (λ (w : F). u ⊠ (w ⊠ c b)) (⊞-self (x b)) ∙ ap (λ (w : F). u ⊠ w) (⊠-comm 𝟘 (c b) ∙ ⊠-𝟘 (c b)) ∙ ⊠-𝟘 u
 
-        sums : (m : ℕ) → m < length ps → total K (λ a. power K (x a) m ⊠ c′ a) ps ≡ 𝟘
+        sums : (m : ℕ) → m < length ps → fieldSum K (λ a. powerOf K (x a) m ⊠ c′ a) ps ≡ 𝟘
         sums m hm =
-            sym (𝟘-⊞ (total K (λ a. power K (x a) m ⊠ c′ a) ps))
-            ∙ ap (λ (w : F). w ⊞ total K (λ a. power K (x a) m ⊠ c′ a) ps) (sym (head (power K (x b) m)))
+            sym (𝟘-⊞ (fieldSum K (λ a. powerOf K (x a) m ⊠ c′ a) ps))
+            ∙ ap (λ (w : F). w ⊞ fieldSum K (λ a. powerOf K (x a) m ⊠ c′ a) ps) (sym (head (powerOf K (x b) m)))
             ∙ shift x c (x b) m (b ∷ ps) ∙ ap₂ (λ (u w : F). u ⊞ x b ⊠ w) (h (suc m) (omega arith)) (h m (omega arith))
             ∙ 𝟘-⊞ (x b ⊠ 𝟘) ∙ ⊠-𝟘 (x b)
 
@@ -131,5 +131,5 @@ module _ {F : Type 0} (K : Field2 F) where
         first r =
             sym (𝟙-⊠ (c b)) ∙ sym (⊞-𝟘 (𝟙 ⊠ c b))
             ∙ ap (λ (w : F). 𝟙 ⊠ c b ⊞ w)
-            (sym (total-𝟘 (λ a. 𝟙 ⊠ c a) ps (all-map (λ a e. 𝟙-⊠ (c a) ∙ e) ps r)))
+            (sym (fieldSum-𝟘 (λ a. 𝟙 ⊠ c a) ps (all-map (λ a e. 𝟙-⊠ (c a) ∙ e) ps r)))
             ∙ h 0 (omega arith)

@@ -41,9 +41,9 @@ unfoldable pub systematic : ℕ → ℕ → Word → Word
 systematic d g w = w ++ binary d (register d g 0 (w ++ replicate d false))
 
 -- a polynomial's coefficients w, behind those of r, as a number: 2 r + b for each
-unfoldable pub value : ℕ → Word → ℕ
-value r [] = r
-value r (b ∷ w) = value (2 * r + num b) w
+unfoldable pub fromCoefficients : ℕ → Word → ℕ
+fromCoefficients r [] = r
+fromCoefficients r (b ∷ w) = fromCoefficients (2 * r + num b) w
 
 -- g times the polynomial with the coefficients q, by Horner's rule: twice what is there, and g where the coefficient is one
 unfoldable pub times : ℕ → ℕ → Word → ℕ

@@ -8,7 +8,7 @@ use native.Mathlib.Omega.{arith}
 use lib.ListN.{take}
 use Rattle.algebra.specs.Tables.{ones}
 use Rattle.algebra.specs.Words.{Word}
-use Rattle.algebra.specs.Remainder.{value, Multiple}
+use Rattle.algebra.specs.Remainder.{fromCoefficients, Multiple}
 use Rattle.algebra.proofs.DivisionLaws.{divides}
 use Rattle.rules.specs.Words.{g, remainder, checks, isCodeword}
 use Rattle.rules.proofs.Laws.CheckLaws.{low, low-small, g-low, codeword-checks, checks-codeword}
@@ -17,10 +17,10 @@ use Rattle.rules.proofs.Laws.CheckLaws.{low, low-small, g-low, codeword
 -- bit n − 1 makes the number of ones even. A codeword is any n bits for which both hold."
 abbrev pub Codewords : Type 0
 Codewords =
-    (n : ℕ) (w : Word) → (isCodeword n w ≡ true) ↔ (Multiple g (value 0 (take (n - 1) w)) × (ones w % 2 ≡ 0))
+    (n : ℕ) (w : Word) → (isCodeword n w ≡ true) ↔ (Multiple g (fromCoefficients 0 (take (n - 1) w)) × (ones w % 2 ≡ 0))
 
 -- the shift register is division by g
-remainder-divides : (n : ℕ) (w : Word) → (remainder n w ≡ 0) ↔ Multiple g (value 0 (take (n - 1) w))
+remainder-divides : (n : ℕ) (w : Word) → (remainder n w ≡ 0) ↔ Multiple g (fromCoefficients 0 (take (n - 1) w))
 unfolding remainder
 remainder-divides n w = rw g-low (divides 15 low low-small (take (n - 1) w))
 

@@ -78,8 +78,8 @@ pub record FieldPromise : Type 0 where
   pub generator : times (poly minimal₁) 0 (binary 9 (poly minimal₃)) ≡ g
 
 -- any register that has tables makes a field
-register-field : (k c : ℕ) (powers logs : List ℕ) → Tables k c powers logs → IsField (2 ^ suc k) (multiply k c)
-register-field k c powers logs t =
+makes-field : (k c : ℕ) (powers logs : List ℕ) → Tables k c powers logs → IsField (2 ^ suc k) (multiply k c)
+makes-field k c powers logs t =
     record {
       sum-in = λ x y hx hy. ⊕-lt (suc k) hx hy;
       sum-assoc = ⊕-assoc;
@@ -112,7 +112,7 @@ pub field-promise : FieldPromise
 unfolding _⊕_ iter turn tab tabFrom xsum poly minimal₁ minimal₃ timesA power valueAt binary times g product multiply
 field-promise =
     record {
-      bytes = register-field 7 29 powers logs tables256;
+      bytes = makes-field 7 29 powers logs tables256;
       root₁ = refl;
       listed = refl;
       round = power-is 255 ∙ round256;
