@@ -141,6 +141,12 @@ pub record Demand₃ : Type 0 where
       → (received : List ℕ) (p q : ℕ) → length received ≡ frameBytes n
       → ((i j : ℕ) → i < n → j < n → i ≢ p → i ≢ q → bitAt written (i * stride n + j) ≡ bitAt received (i * stride n + j))
       → ComesBack n written received
+  -- or two columns
+  pub columns-gone :
+      (n : ℕ) (message blank written : List ℕ) → Encodes n message blank 0 written
+      → (received : List ℕ) (p q : ℕ) → length received ≡ frameBytes n
+      → ((i j : ℕ) → i < n → j < n → j ≢ p → j ≢ q → bitAt written (i * stride n + j) ≡ bitAt received (i * stride n + j))
+      → ComesBack n written received
   -- no two different written frames, spoiled so, agree
   pub apart :
       (n : ℕ) (message blank written message′ blank′ written′ : List ℕ) → Encodes n message blank 0 written
@@ -284,6 +290,8 @@ demand₃ = record {
       back-here n message blank written e received (repairs .eight-bits n written received h few);
   rows-gone = λ n message blank written e received p q h kept.
       back-here n message blank written e received (repairs .rows-gone n written received p q h kept);
+  columns-gone = λ n message blank written e received p q h kept.
+      back-here n message blank written e received (repairs .columns-gone n written received p q h kept);
   apart = λ n message blank written message′ blank′ written′ e e′ d received received′ s s′.
       repairs .apart n written written′ received received′ (writes n message blank written e)
       (writes n message′ blank′ written′ e′) d s s′;

@@ -165,3 +165,25 @@ rows-lost t n f h lost few same =
         let z : differ (row f i) (row h i) ≡ 0 = ap (λ w. differ (row f i) w) (sym (same i l q)) ∙ differ-self (row f i) in
         let e : leb (suc t) (differ (row f i) (row h i)) ≡ false = lt-leb (suc t) (differ (row f i) (row h i)) (omega arith) in
         omega (arith, ap num e)
+
+-- columns lost whole, at most t of them, leave at most t wrong bits in each row, and spoil none
+pub columns-lost :
+    (t n : ℕ) (f h : Frame) → Square n f → Square n h → (lost : List ℕ) → length lost ≤ t
+    → ((i j : ℕ) → i < n → j < n → isIn j lost ≡ false → cell f i j ≡ cell h i j) → spoilt t n f h ≡ 0
+unfolding spoilt bit
+columns-lost t n f h sf sh lost few same =
+    zero-count n (λ i. leb (suc t) (differ (row f i) (row h i)))
+    (λ i l. lt-leb (suc t) (differ (row f i) (row h i)) (omega (arith, wrong i l, count-named n lost)))
+  where
+    bits : (w : Word) → length w ≡ n → tab n (bit w) ≡ w
+    bits w e = tab-is n (bit w) w false e (λ j l. refl)
+
+    only : (i j : ℕ) → i < n → j < n → (b : Bool) → isIn j lost ≡ b → num (xor (cell f i j) (cell h i j)) ≤ num (isIn j lost)
+    only i j l k true q = rw q (num-le (xor (cell f i j) (cell h i j)))
+    only i j l k false q = rw (same i j l k q, xor-self (cell h i j)) (omega arith)
+
+    wrong : (i : ℕ) → i < n → differ (row f i) (row h i) ≤ count n (λ j. isIn j lost)
+    wrong i l =
+        let e : differ (row f i) (row h i) ≡ count n (λ j. xor (cell f i j) (cell h i j)) =
+        ap₂ differ (sym (bits (row f i) (sf .1 i l))) (sym (bits (row h i) (sh .1 i l))) ∙ differ-tab n (cell f i) (cell h i) in
+        rw e (count-mono n (λ j. xor (cell f i j) (cell h i j)) (λ j. isIn j lost) (λ j k. only i j l k (isIn j lost) refl))

@@ -30,12 +30,12 @@ use Rattle.rules.specs.Numbers.{
   figuresOf,
 }
 use Rattle.rules.specs.Damage.{spoilt}
-use Rattle.rules.proofs.Laws.Shape.{word-ext, frameOf-square, frameOf-row, wordOf-length, wordOf-bit}
+use Rattle.rules.proofs.Laws.Shape.{word-ext, frameOf-square, frameOf-row, frameOf-cell, wordOf-length, wordOf-bit}
 use Rattle.rules.proofs.Laws.PackLaws.{spare-free}
 use Rattle.rules.proofs.Laws.NumberLaws.{Sized, decode-accepts, handed, at-zero}
 use Rattle.rules.proofs.Promises.Encoding.{Encoded}
 use Rattle.rules.proofs.Promises.RoundTrip.{frame, accepted, encoded, is-written, is-frame}
-use Rattle.rules.proofs.Promises.RepairFrames.{Restored, repairs-frames, eight, two-rows, spoiled-apart}
+use Rattle.rules.proofs.Promises.RepairFrames.{Restored, repairs-frames, eight, two-rows, two-columns, spoiled-apart}
 
 -- ---- The statement
 
@@ -85,6 +85,11 @@ pub record RepairPromise : Type 0 where
   pub rows-gone :
       (n : ℕ) (written received : List ℕ) (p q : ℕ) → length received ≡ frameBytes n
       → ((i j : ℕ) → i < n → j < n → i ≢ p → i ≢ q → bitAt written (i * stride n + j) ≡ bitAt received (i * stride n + j))
+      → Spoiled n written received
+  -- any two columns p and q lost whole
+  pub columns-gone :
+      (n : ℕ) (written received : List ℕ) (p q : ℕ) → length received ≡ frameBytes n
+      → ((i j : ℕ) → i < n → j < n → j ≢ p → j ≢ q → bitAt written (i * stride n + j) ≡ bitAt received (i * stride n + j))
       → Spoiled n written received
 
 -- ---- The proof
@@ -203,4 +208,11 @@ repairs =
       apart = apart-here;
       eight-bits = λ n written received long d. (long, eight n (frameOf n written) (frameOf n received) d);
       rows-gone = rows-gone-here;
+      columns-gone = λ n written received p q long same. (
+        long,
+        two-columns n (frameOf n written) (frameOf n received) (frameOf-square n written) (frameOf-square n received) p q
+            (λ i j l m out.
+            let k = not-named j p q out in
+            frameOf-cell n written i j l m ∙ same i j l m (k .0) (k .1) ∙ sym (frameOf-cell n received i j l m)),
+      );
     }

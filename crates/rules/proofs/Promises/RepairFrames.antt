@@ -9,14 +9,14 @@ use native.Mathlib.Omega.{arith}
 use lib.ListN.{length}
 use Rattle.algebra.specs.Words.{Word, differ}
 use Rattle.rules.specs.Words.{isCodeword, isIn, mend}
-use Rattle.rules.specs.Frames.{Frame, Square, row, transposed, isFrame}
+use Rattle.rules.specs.Frames.{Frame, Square, row, cell, transposed, isFrame}
 use Rattle.rules.specs.Passes.{passRows, passColumns, pass, differences, counted, clean, repaired, Outcome, passesFrom, decoded}
 use Rattle.rules.specs.Damage.{spoilt}
 use Rattle.rules.proofs.Laws.Shape.{transposed-square, transposed-twice}
 use Rattle.rules.proofs.Laws.FrameLaws.{frame-rows, frame-columns}
 use Rattle.rules.proofs.Promises.Answers.{answers}
 use Rattle.rules.proofs.Laws.PassLaws.{decoded-clean, decoded-passes, step-repaired, step-on, pass-one, pass-two, passRows-square}
-use Rattle.rules.proofs.Laws.TwoPasses.{rowsMended, rows-left, two-passes, few-wrong, rows-lost}
+use Rattle.rules.proofs.Laws.TwoPasses.{rowsMended, rows-left, two-passes, few-wrong, rows-lost, columns-lost}
 
 -- ---- The statement
 
@@ -113,6 +113,12 @@ eight n f r d = few-wrong 2 n f r (omega arith)
 pub two-rows :
     (n : ℕ) (f r : Frame) (p q : ℕ) → ((i : ℕ) → i < n → isIn i (p ∷ q ∷ []) ≡ false → row f i ≡ row r i) → spoilt 2 n f r ≤ 2
 two-rows n f r p q same = rows-lost 2 n f r (p ∷ q ∷ []) (omega arith) same
+
+-- two columns lost whole: no row is spoiled
+pub two-columns :
+    (n : ℕ) (f r : Frame) → Square n f → Square n r → (p q : ℕ)
+    → ((i j : ℕ) → i < n → j < n → isIn j (p ∷ q ∷ []) ≡ false → cell f i j ≡ cell r i j) → spoilt 2 n f r ≤ 2
+two-columns n f r s sr p q same = omega (arith, columns-lost 2 n f r s sr (p ∷ q ∷ []) (omega arith) same)
 
 -- two written frames, each spoiled so, that agree are one
 pub spoiled-apart :
