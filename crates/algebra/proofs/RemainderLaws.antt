@@ -211,7 +211,7 @@ module _ (k c : ℕ) (small : c < 2 ^ suc k) where
       ∙ ap (λ x. x ⊕ dot (powersDown (suc k) (2 ^ suc k + c) (length w)) w) (iter-zero k c (length w))
       ∙ zero-⊕ (dot (powersDown (suc k) (2 ^ suc k + c) (length w)) w)
 
-  -- "the remainder that makes the polynomial divisible"
+  -- with it no remainder is left
   pub systematic-divisible : (w : Word) → register (suc k) (2 ^ suc k + c) 0 (systematic (suc k) (2 ^ suc k + c) w) ≡ 0
   unfolding systematic
   systematic-divisible w =

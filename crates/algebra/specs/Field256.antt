@@ -1,4 +1,4 @@
--- The field of 256 elements: its element a is a root of z^8 + z^4 + z^3 + z^2 + 1, so times a is turn 7 29.
+-- The field of 256 elements as tables: a^8 is a^4 + a^3 + a^2 + 1, so times a is turn 7 29.
 use mathlib.Core.List.{List, [], _∷_}
 use Prim.Native.Nat.{ℕ}
 

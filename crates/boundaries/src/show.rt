@@ -1,4 +1,4 @@
-// Lines of the report.
+// The lines that the program prints.
 use frame::decode::Decoded;
 use frame::decode::Ending;
 use frame::decode::Report;

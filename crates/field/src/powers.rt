@@ -1,4 +1,4 @@
-// The powers of a: an element is a byte, bit i for a^i.
+// The powers of a, each a byte as RULES 1 has it.
 ghost use mathlib.Core.Path.{_≡_};
 ghost use Rattle.rules.specs.Field.{power};
 

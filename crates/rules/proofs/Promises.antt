@@ -16,7 +16,7 @@ pub mod Packing
 pub mod RepairFrames
 pub mod Repair
 pub mod Limit
--- Document 01's examples
+-- The bench items
 pub mod Bench
 -- The dump and its report
 pub mod Records

@@ -1,4 +1,4 @@
--- Document 01, "Frame and bytes": the bytes.
+-- RULES 4: the bytes.
 use mathlib.Core.Bool.{Bool}
 use mathlib.Core.List.{List}
 use Prim.Native.Nat.{ℕ, zero, suc, _+_, _*_, _-_, _/_, _%_, _^_}
@@ -8,7 +8,7 @@ use Rattle.algebra.specs.Words.{Word, bit}
 use Rattle.algebra.specs.Remainder.{isOdd}
 use Rattle.rules.specs.Frames.{Frame, row}
 
--- "Each row takes the fewest whole bytes: (n+7)/8 rounded down"
+-- the bytes of a row: as few as n bits can have
 abbrev pub rowBytes : ℕ → ℕ
 rowBytes n = (n + 7) / 8
 
@@ -20,7 +20,7 @@ stride n = rowBytes n * 8
 abbrev pub squareBytes : ℕ → ℕ
 squareBytes n = n * rowBytes n
 
--- "Bit 0 is the top bit of the first byte."
+-- bit j of a buffer: each byte from its top bit down
 unfoldable pub bitAt : List ℕ → ℕ → Bool
 bitAt s j = isOdd (getD s (j / 8) 0 / 2 ^ (7 - j % 8))
 
@@ -28,7 +28,7 @@ bitAt s j = isOdd (getD s (j / 8) 0 / 2 ^ (7 - j % 8))
 unfoldable pub wordOf : ℕ → List ℕ → ℕ → Word
 wordOf n s start = tab n (λ j. bitAt s (start + j))
 
--- "The decoder takes no notice of received spare bits": row i starts at bit i × stride
+-- the code bits of n rows in a buffer; row i begins at bit i × stride, and its spare bits are left out
 unfoldable pub frameOf : ℕ → List ℕ → Frame
 frameOf n s = tab n (λ i. wordOf n s (i * stride n))
 
@@ -37,7 +37,7 @@ unfoldable pub packed : Word → ℕ → ℕ → ℕ
 packed w j zero = 0
 packed w j (suc m) = packed w j m * 2 + num (bit w (j + m))
 
--- byte b of a word; past the word's end bits are false: "writes spare bits as zero"
+-- byte b of a word; past the word's end bits are false, so spare bits are written as zero
 abbrev pub byteOf : Word → ℕ → ℕ
 byteOf w b = packed w (b * 8) 8
 
@@ -48,6 +48,6 @@ wordBytes n w = tab (rowBytes n) (λ b. byteOf w b)
 unfoldable pub bytesOf : ℕ → Frame → List ℕ
 bytesOf n f = tab (squareBytes n) (λ b. byteOf (row f (b / rowBytes n)) (b % rowBytes n))
 
--- "Bits past the row's end are spare." How many of them are set in n rows of n bits
+-- how many spare bits, those behind each row's n bits, are set in n rows
 unfoldable pub spareOnes : ℕ → List ℕ → ℕ
 spareOnes n s = total n (λ i. count (stride n - n) (λ j. bitAt s (i * stride n + n + j)))

@@ -1,4 +1,4 @@
--- Document 01, "Field and word": the field.
+-- RULES 1: the field.
 use mathlib.Core.Bool.{true, false}
 use mathlib.Core.List.{List, [], _∷_}
 use Prim.Native.Nat.{ℕ, zero, suc, _+_, _*_, _^_}
@@ -13,15 +13,15 @@ unfoldable pub poly : List ℕ → ℕ
 poly [] = 0
 poly (e ∷ es) = 2 ^ e + poly es
 
--- "with a a root of z^8+z^4+z^3+z^2+1"
+-- the minimal polynomial of a
 unfoldable pub minimal₁ : List ℕ
 minimal₁ = 8 ∷ 4 ∷ 3 ∷ 2 ∷ 0 ∷ []
 
--- "The minimal polynomial of a^3 is z^8+z^6+z^5+z^4+z^2+z+1."
+-- that of a^3
 unfoldable pub minimal₃ : List ℕ
 minimal₃ = 8 ∷ 6 ∷ 5 ∷ 4 ∷ 2 ∷ 1 ∷ 0 ∷ []
 
--- "An element is a byte, bit i for a^i." Times a moves each bit up, and a^8 is a^4+a^3+a^2+1
+-- a byte times a: bit i, which stands for a^i, moves up by one, and a^8 is a^4 + a^3 + a^2 + 1
 unfoldable pub timesA : ℕ → ℕ
 timesA x = turn 7 (poly (4 ∷ 3 ∷ 2 ∷ 0 ∷ [])) x
 
@@ -34,7 +34,7 @@ unfoldable pub exponent : ℕ → ℕ → ℕ → ℕ
 exponent zero e x = 0
 exponent (suc left) e x = elim (eqb (power e) x) [ true ↦ e | false ↦ exponent left (suc e) x ]
 
--- "a^255 = 1", so all logarithms lie below 255; 0 has none
+-- the exponent below 255 of which x is the power: the powers come round at 255. For 0, which is none of them, it gives 0
 unfoldable pub logarithm : ℕ → ℕ
 logarithm x = exponent 255 0 x
 

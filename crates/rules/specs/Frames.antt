@@ -1,4 +1,4 @@
--- Document 01, "Frame and bytes": the frame.
+-- RULES 3: the frame.
 use mathlib.Core.Path.{_≡_}
 use mathlib.Core.Bool.{Bool, not}
 use mathlib.Core.List.{List, []}
@@ -16,7 +16,7 @@ Frame = List Word
 unfoldable pub row : Frame → ℕ → Word
 row f i = getD f i []
 
--- "n rows of n bits"
+-- it has n rows, and each has n bits
 abbrev pub Square : ℕ → Frame → Type 0
 Square n f = (length f ≡ n) × ((i : ℕ) → i < n → length (row f i) ≡ n)
 
@@ -28,25 +28,25 @@ cell f i j = bit (row f i) j
 unfoldable pub transposed : ℕ → Frame → Frame
 transposed n f = tab n (λ j. tab n (λ i. cell f i j))
 
--- how many rows, and how many columns, "are not codewords"
+-- how many rows, and how many columns, are no codewords
 unfoldable pub badRows : ℕ → Frame → ℕ
 badRows n f = count n (λ i. not (isCodeword n (row f i)))
 
 unfoldable pub badColumns : ℕ → Frame → ℕ
 badColumns n f = badRows n (transposed n f)
 
--- "A frame has n rows of n bits, every row and every column a codeword."
+-- every row is a codeword, and so is every column
 unfoldable pub isFrame : ℕ → Frame → Bool
 isFrame n f = eqb (badRows n f + badColumns n f) 0
 
--- "Data is k rows of k bits, kept in the frame's upper left corner."
+-- the upper left k × k bits; those of a frame are its data
 unfoldable pub corner : ℕ → Frame → Frame
 corner k f = tab k (λ i. tab k (λ j. cell f i j))
 
--- "Encoding rows first": the k rows encoded, then each of the n columns that they make
+-- the frame of the data d: its k rows encoded, then each of the n columns that they make
 unfoldable pub rowsFirst : ℕ → Frame → Frame
 rowsFirst n d = transposed n (tab n (λ j. encodeWord (tab (dataBits n) (λ i. bit (encodeWord (row d i)) j))))
 
--- "or columns first": the same with rows and columns changed over
+-- the same with rows and columns exchanged: columns encoded, then rows
 unfoldable pub columnsFirst : ℕ → Frame → Frame
 columnsFirst n d = transposed n (rowsFirst n (transposed (dataBits n) d))

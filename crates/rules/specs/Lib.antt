@@ -1,4 +1,4 @@
--- Document 01, in its own order. Read the files in this order.
+-- The rules of docs/RULES.md as definitions, in its order.
 pub mod Field
 pub mod Words
 pub mod Frames

@@ -1,5 +1,5 @@
--- Document 01, "Numbers returned, and what stands in the output": each entry point from its arguments, what the lent output held
--- included, to what is said and what the output holds then.
+-- RULES 6: numbers and outputs. Each entry point from its arguments, among them what the lent output has before the call, to what
+-- is said and what the output has after it.
 use mathlib.Core.Bool.{Bool, true, false, not, _&&_, _||_}
 use mathlib.Core.List.{List, [], _∷_}
 use Prim.Native.Nat.{ℕ, _*_}
@@ -14,11 +14,11 @@ abbrev pub pick {ℓ} : {A : Type ℓ} → Bool → A → A → A
 pick true x y = x
 pick false x y = y
 
--- n is no permitted length
+-- number 1: n is out of range
 abbrev pub outside : ℕ → Bool
 outside n = not (leb shortest n && leb n longest)
 
--- "allowance is not 1..32"
+-- number 4: the allowance is out of range
 abbrev pub mostAllowed : ℕ
 mostAllowed = 32
 
@@ -40,18 +40,18 @@ dataBytes n = squareBytes (dataBits n)
 abbrev pub RefusalList : Type 0
 RefusalList = List (Bool × ℕ)
 
--- "Checks go in order of number; the first that applies is given, and none is given otherwise."
+-- the first check that is met gives its number; where none is, the number is 0
 abbrev pub first : RefusalList → ℕ
 first [] = 0
 first (check ∷ later) = pick (check .0) (check .1) (first later)
 
--- "input length is not exactly that of n", "output length is not exact"
+-- numbers 1, 2 and 3: n, the length of the input, that of the output
 abbrev pub sizeRefusals : ℕ → List ℕ → ℕ → List ℕ → ℕ → RefusalList → RefusalList
 sizeRefusals n input takes output gives later = (outside n, 1) ∷ (notLong input takes, 2) ∷ (notLong output gives, 3) ∷ later
 
 -- ---- Encoding: the number, and the output
 
--- "data has a spare bit set (encoding)"
+-- number 5: a spare bit of the data is set
 abbrev pub encodeRefusals : ℕ → List ℕ → List ℕ → RefusalList
 encodeRefusals n input output =
     sizeRefusals n input (dataBytes n) output (frameBytes n) ((not (eqb (spareOnes (dataBits n) input) 0), 5) ∷ [])
@@ -59,14 +59,14 @@ encodeRefusals n input output =
 unfoldable pub encodeNumber : ℕ → List ℕ → List ℕ → ℕ
 encodeNumber n input output = first (encodeRefusals n input output)
 
--- "The encoder writes spare bits as zero and refuses data in which one is set."
+-- the frame, spare bits zero; unchanged where it is refused
 unfoldable pub encodeOutput : ℕ → List ℕ → List ℕ → List ℕ
 encodeOutput n input output =
     pick (eqb (encodeNumber n input output) 0) (bytesOf n (rowsFirst n (frameOf (dataBits n) input))) output
 
 -- ---- Reading data: the number, and the output
 
--- "not a frame of codewords, code bits only (reading data)"
+-- number 6: the code bits are no frame
 abbrev pub readRefusals : ℕ → List ℕ → List ℕ → RefusalList
 readRefusals n input output =
     sizeRefusals n input (frameBytes n) output (dataBytes n) ((not (isFrame n (frameOf n input)), 6) ∷ [])
@@ -74,7 +74,7 @@ readRefusals n input output =
 unfoldable pub readNumber : ℕ → List ℕ → List ℕ → ℕ
 readNumber n input output = first (readRefusals n input output)
 
--- "Reading data takes no notice of the frame's spare bits and writes the data's as zero."
+-- the data, spare bits zero, whatever the frame's are; unchanged where it is refused
 unfoldable pub readOutput : ℕ → List ℕ → List ℕ → List ℕ
 readOutput n input output =
     pick (eqb (readNumber n input output) 0) (bytesOf (dataBits n) (corner (dataBits n) (frameOf n input))) output
@@ -102,7 +102,7 @@ decodeSaid n allowance input output =
     let r : ℕ = decodeRefusal n allowance input output in
     pick (eqb r 0) (told (decoded n allowance (frameOf n input))) (refused r)
 
--- "the frame" for clean and repaired, "the received bytes, spare bits too" for stuck and spent
+-- the frame where that came out, spare bits zero; else the bytes that were received
 abbrev pub handedOut : ℕ → List ℕ → Outcome → List ℕ
 handedOut n input o =
     elim (o .ending) [ clean ↦ bytesOf n (o .last) | repaired ↦ bytesOf n (o .last) | stuck ↦ input | spent ↦ input ]
@@ -111,7 +111,7 @@ unfoldable pub decodeOutput : ℕ → ℕ → List ℕ → List ℕ → List ℕ
 decodeOutput n allowance input output =
     pick (eqb (decodeRefusal n allowance input output) 0) (handedOut n input (decoded n allowance (frameOf n input))) output
 
--- document 01's number and values
+-- the number of RULES 6, and the values that go with it
 pub record Figures : Type 0 where
   pub number : ℕ
   pub passes : ℕ
@@ -119,7 +119,7 @@ pub record Figures : Type 0 where
   pub rows : ℕ
   pub columns : ℕ
 
--- "Passes and flips stand for 0, 7 and 8; rows and columns for 7 and 8; all else is zero."
+-- a refusal has no values, and a success no rows and columns
 abbrev pub figuresOf : Decoded → Figures
 figuresOf (refused r) = record { number = r; passes = 0; flips = 0; rows = 0; columns = 0 }
 figuresOf (ended clean p f r c) = record { number = 0; passes = p; flips = f; rows = 0; columns = 0 }
@@ -146,7 +146,7 @@ unfoldable pub wordSaid : ℕ → List ℕ → List ℕ → WordSaid
 wordSaid n input output =
     let r : ℕ = wordRefusal n input output in pick (eqb r 0) (answered (answer n (wordOf n input 0))) (wordRefused r)
 
--- "0: word accepted", "9: no codeword within two (single word)"
+-- number 9: beyond; each other answer is a success
 abbrev pub wordNumber : WordSaid → ℕ
 wordNumber (wordRefused r) = r
 wordNumber (answered codeword) = 0
@@ -154,20 +154,20 @@ wordNumber (answered (onePlace p)) = 0
 wordNumber (answered (twoPlaces p q)) = 0
 wordNumber (answered beyond) = 9
 
--- "An accepted word has its spare bits zero"; for number 9 "the received bytes, spare bits too"
+-- the codeword, spare bits zero; for number 9 the bytes that were received; unchanged where it is refused
 unfoldable pub wordOutput : ℕ → List ℕ → List ℕ → List ℕ
 wordOutput n input output =
     pick (eqb (wordRefusal n input output) 0)
     (pick (eqb (wordNumber (wordSaid n input output)) 0) (wordBytes n (mend n (wordOf n input 0))) input)
     output
 
--- ---- Row i, "that part of the caller's own bytes"
+-- ---- Row i: a part of the caller's own bytes
 
--- "n or length wrong, or i not below n"
+-- n is out of range, the length is not that of n, or there is no row i
 abbrev pub rowRefused : ℕ → List ℕ → ℕ → Bool
 rowRefused n input i = outside n || notLong input (frameBytes n) || not (ltb i n)
 
--- "returns an empty part and no number"
+-- the bytes of the row; none where it is refused
 unfoldable pub rowPart : ℕ → List ℕ → ℕ → List ℕ
 rowPart n input i = pick (rowRefused n input i) [] (take (rowBytes n) (drop (i * rowBytes n) input))
 

@@ -1,8 +1,8 @@
--- Document 01, "The desktop's host program is written in C": decode's answer as one number.
+-- RULES 7: decode's answer for C, as one number.
 use Prim.Native.Nat.{ℕ, _+_, _*_, _/_, _%_, _^_, _<_}
 use Rattle.rules.specs.Numbers.{Figures}
 
--- "bits 0..7 the number above, 8..15 passes, 16..31 bits flipped, 32..47 bad rows, 48..63 bad columns"
+-- from the lowest bit up: 8 bits each for number and passes, 16 each for flips, rows and columns
 unfoldable pub packedFigures : Figures → ℕ
 packedFigures f = f .number + f .passes * 2 ^ 8 + f .flips * 2 ^ 16 + f .rows * 2 ^ 32 + f .columns * 2 ^ 48
 

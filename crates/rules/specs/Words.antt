@@ -1,4 +1,4 @@
--- Document 01, "Field and word": the word.
+-- RULES 2: the word.
 use mathlib.Core.Bool.{Bool, true, false, xor, _||_}
 use mathlib.Core.List.{List, [], _∷_, _++_, map}
 use mathlib.Core.Option.{Option, some, none}
@@ -12,7 +12,7 @@ use Rattle.algebra.specs.Words.{Word, bit}
 use Rattle.algebra.specs.Remainder.{register, powersDown, isOdd, systematic}
 use Rattle.rules.specs.Field.{poly}
 
--- "g = z^16+z^14+z^13+z^11+z^10+z^9+z^8+z^6+z^5+z+1"
+-- the polynomial that divides every codeword: minimal₁ times minimal₃
 unfoldable pub g : ℕ
 g = poly (16 ∷ 14 ∷ 13 ∷ 11 ∷ 10 ∷ 9 ∷ 8 ∷ 6 ∷ 5 ∷ 1 ∷ 0 ∷ [])
 
@@ -27,10 +27,11 @@ longest = 256
 abbrev pub checkBits : ℕ
 checkBits = 17
 
+-- k: all others
 abbrev pub dataBits : ℕ → ℕ
 dataBits n = n - checkBits
 
--- "For j from 0 to n − 2, bit j is the coefficient of z^(n−2−j)."
+-- what g leaves of the polynomial whose coefficients are all bits but the last, the highest power first
 unfoldable pub remainder : ℕ → Word → ℕ
 remainder n w = register 16 g 0 (take (n - 1) w)
 
@@ -38,20 +39,18 @@ remainder n w = register 16 g 0 (take (n - 1) w)
 unfoldable pub checks : ℕ → Word → ℕ
 checks n w = 2 * remainder n w + ones w % 2
 
--- "the remainder that makes the polynomial divisible by g, and bit n − 1 makes the number of ones even. A codeword is any n
--- bits for which both hold."
+-- no remainder, and an even number of ones
 unfoldable pub isCodeword : ℕ → Word → Bool
 isCodeword n w = eqb (checks n w) 0
 
 abbrev pub Codeword : ℕ → Word → Type 0
 Codeword n w = (length w ≡ n) × (isCodeword n w ≡ true)
 
--- "Bits 0 to k − 1 are data, the next 16 are the remainder .., and bit n − 1 makes the number of ones even."
+-- data, then the 16 bits that leave no remainder, then the bit that makes the ones even
 unfoldable pub encodeWord : Word → Word
 encodeWord u = let w : Word = systematic 16 g u in w ++ isOdd (ones w) ∷ []
 
--- The value of a place: the checks of the word whose only one stands there.
--- "The overall parity bit is a place like any other."
+-- The value of a place: the checks of the word whose only one stands there. The parity bit, the last, has one too.
 unfoldable pub values : ℕ → List ℕ
 values n = map (λ r. 2 * r + 1) (powersDown 16 g (n - 1)) ++ 1 ∷ []
 
@@ -71,20 +70,20 @@ unfoldable pub within : ℕ → List ℕ → ℕ → Option (List ℕ)
 within zero vs s = exactly zero 0 vs s
 within (suc t) vs s = elim (within t vs s) [ some ps ↦ some ps | none ↦ exactly (suc t) 0 vs s ]
 
--- the places that were changed, at most two; none where "no codeword lies within two". Only the n places of the word are tried:
--- "a correction at a place that was cut away doesn't count."
+-- the places to be changed, two at most, or none where that takes more. Only the word's own n places are tried, and so none that
+-- was cut away
 unfoldable pub nearest : ℕ → Word → Option (List ℕ)
 nearest n w = within 2 (values n) (checks n w)
 
--- "A word's answer is one of four"
+-- the four answers
 pub data Answer : Type 0 where
-  -- "it is a codeword"
+  -- nothing is to be changed
   codeword : Answer
-  -- "one place was changed"
+  -- the bit here is
   onePlace : ℕ → Answer
-  -- "two places were changed, the lower one named first"
+  -- the bits here are; the lower place stands first
   twoPlaces : ℕ → ℕ → Answer
-  -- "or no codeword lies within two"
+  -- every codeword differs in three places or more
   beyond : Answer
 
 -- the places found, as one of the four
@@ -114,6 +113,6 @@ isIn j (p ∷ ps) = eqb j p || isIn j ps
 unfoldable pub changed : List ℕ → Word → Word
 changed ps w = tab (length w) (λ j. xor (isIn j ps) (bit w j))
 
--- "each word that has a codeword within two is replaced by it; each other word is left"
+-- the codeword that the answer leads to; a word that is beyond stays
 unfoldable pub mend : ℕ → Word → Word
 mend n w = changed (places (answer n w)) w

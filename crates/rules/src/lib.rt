@@ -1,1 +1,1 @@
-// Definitions and promises only: document 01 stands in specs/, what is shown of it in proofs/.
+// Definitions and promises only: the rules of docs/RULES.md stand in specs/, what is shown of them in proofs/.

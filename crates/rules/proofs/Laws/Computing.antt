@@ -1,4 +1,4 @@
--- `unfolding computing` opens every definition of document 01 at once, for what antt works out by itself.
+-- `unfolding computing` opens every definition of the rules at once, for what antt works out by itself.
 -- Assumes nothing.
 use mathlib.Core.Bool.{xor}
 use Rattle.algebra.specs.Xor.{_⊕_}

@@ -46,7 +46,7 @@ systematic-data : (u : Word) (j : ℕ) → j < length u → bit (systematic 16 g
 unfolding systematic bit
 systematic-data u j h = List·getD-append u (binary 16 (register 16 g 0 (u ++ replicate 16 false))) false j h
 
--- "Bits 0 to k − 1 are data"
+-- the data are the first k bits
 pub encode-data : (u : Word) (j : ℕ) → j < length u → bit (encodeWord u) j ≡ bit u j
 unfolding encodeWord bit
 encode-data u j h =

@@ -22,7 +22,7 @@ none-rows : (n : ℕ) (f : Frame) → Rows n f → badRows n f ≡ 0
 unfolding badRows
 none-rows n f h = zero-count n (λ i. not (isCodeword n (row f i))) (λ i hi. ap not (h i hi))
 
--- "every row and every column a codeword"
+-- all rows and all columns are codewords
 pub frame-rows : (n : ℕ) (f : Frame) → isFrame n f ≡ true → Rows n f
 unfolding isFrame
 frame-rows n f h = rows-none n f (let e = eqb-true (badRows n f + badColumns n f) 0 h in omega arith)

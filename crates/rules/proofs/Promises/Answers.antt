@@ -1,4 +1,5 @@
--- The word's answer: refused exactly if no codeword lies within two; otherwise the one codeword within two.
+-- RULES 2: the word's answer is `beyond` exactly if every codeword differs in three places or more; else it leads to the one that
+-- is nearer.
 -- Assumes nothing.
 use mathlib.Core.Path.{_≡_, refl, sym, ap, subst, _∙_}
 use mathlib.Core.Logic.{_≢_, _↔_}
@@ -19,7 +20,7 @@ use Rattle.rules.proofs.Laws.NearestLaws.{Code, Nearest, listed, neares
 
 -- ---- The statement
 
--- "it is a codeword; one place was changed; two places were changed, the lower one named first; or no codeword lies within two"
+-- the four-way statement: what each answer says of the word. No search is named
 abbrev pub Fits : ℕ → Word → Answer → Type 0
 Fits n w codeword = isCodeword n w ≡ true
 Fits n w (onePlace p) = (p < n) × (isCodeword n (changed (p ∷ []) w) ≡ true)
@@ -30,12 +31,12 @@ pub record WordPromise (n : ℕ) (w : Word) : Type 0 where
   -- the answer fits, and nothing else does
   pub fits : Fits n w (answer n w)
   pub only : (a : Answer) → Fits n w a → a ≡ answer n w
-  -- "A word is refused exactly if no codeword lies within two bits"
+  -- refused exactly where all codewords are farther than two places
   pub refused : (answer n w ≡ beyond) ↔ ((c : Word) → Codeword n c → 2 < differ c w)
-  -- "otherwise the answer is that one codeword"
+  -- else mended to a codeword that is not farther, and there is no other
   pub accepted : answer n w ≢ beyond → Codeword n (mend n w) × (differ (mend n w) w ≤ 2)
   pub mended : (c : Word) → Codeword n c → differ c w ≤ 2 → mend n w ≡ c
-  -- "each other word is left"
+  -- a refused word stays as it was
   pub left : answer n w ≡ beyond → mend n w ≡ w
 
 abbrev pub Answers : Type 0

@@ -1,4 +1,4 @@
--- Document 01, "Bench items (starred: to be shown)": all of them, as one table under one statement.
+-- RULES 10: the bench items, as one table under one statement.
 -- Assumes nothing.
 use mathlib.Core.Path.{_≡_, refl, sym, ap, ap₂, _∙_}
 use mathlib.Core.Logic.{_⊎_, inl, inr}
@@ -50,7 +50,7 @@ got (word n s) =
     words (wordNumber said) said (wordOutput n s (nines (rowBytes n)))
 got (weigh n s) = weighs (total n (λ i. ones (row (frameOf n s) i)))
 
--- "zero, and B7 B1 C0", each as one row of 18 bits
+-- the two codewords of 18 bits, each as one row
 abbrev o : List ℕ
 o = 0x00 ∷ 0x00 ∷ 0x00 ∷ []
 
@@ -63,7 +63,7 @@ all = 0xFF ∷ 0xFF ∷ 0xC0 ∷ []
 abbrev zeros : ℕ → List ℕ
 zeros m = replicate m 0
 
--- "row i is B7 B1 C0 where bit i of that word is one, else zero"
+-- the frame whose data bit is one: row i is `c` where `c` has a one at place i
 abbrev square : List ℕ
 square = c ++ o ++ c ++ c ++ o ++ c ++ c ++ c ++ c ++ o ++ c ++ c ++ o ++ o ++ o ++ c ++ c ++ c
 
@@ -73,30 +73,30 @@ nine = 0xE0 ∷ 0 ∷ 0 ∷ 0xE0 ∷ 0 ∷ 0 ∷ 0xE0 ∷ 0 ∷ 0 ∷ zeros 45
 
 unfoldable pub table : List (Asked × Got)
 table =
-    -- A: all zero: clean
+    -- A: a frame of zeros
     (decode 18 2 (zeros 54), decodes 0 (ended clean 0 0 0 0) (zeros 54))
-    -- B: bits 0 and 1 of row 0 set: repaired in 1 pass, 2 flips
+    -- B: two wrong bits in one row
     ∷ (decode 18 2 (0xC0 ∷ zeros 53), decodes 0 (ended repaired 1 2 0 0) (zeros 54))
-    -- C: rows 0 and 1 all ones: 2 passes, 36 flips
+    -- C: two rows of ones
     ∷ (decode 18 2 (all ++ all ++ zeros 48), decodes 0 (ended repaired 2 36 0 0) (zeros 54))
-    -- with allowance 1: spent, 1 pass, 0 flips, 2 rows, 18 columns
+    -- and the same at allowance 1
     ∷ (decode 18 1 (all ++ all ++ zeros 48), decodes 8 (ended spent 1 0 2 18) (all ++ all ++ zeros 48))
-    -- D: bits 0..2 of rows 0..2 set: stuck after 2 passes, 3 rows, 3 columns
+    -- D: three wrong bits in each of three rows, in the same columns
     ∷ (decode 18 2 nine, decodes 7 (ended stuck 2 0 3 3) nine)
-    -- data bit 1
+    -- the data bit is one
     ∷ (encode 18 (0x80 ∷ []), encodes 0 square)
-    -- 144 ones
+    -- the code bits of that frame that are ones
     ∷ (weigh 18 square, weighs 144)
-    -- word of 18 with only bit 17 set: zero, one place
+    -- the parity bit is wrong
     ∷ (word 18 (0x00 ∷ 0x00 ∷ 0x40 ∷ []), words 0 (answered (onePlace 17)) o)
-    -- word of 18 with bits 0, 1, 2 set: number 9
+    -- three wrong bits
     ∷ (word 18 (0xE0 ∷ 0x00 ∷ 0x00 ∷ []), words 9 (answered beyond) (0xE0 ∷ 0x00 ∷ 0x00 ∷ []))
-    -- word of 256 ones: a codeword
+    -- 256 ones are a codeword
     ∷ (word 256 (replicate 32 0xFF), words 0 (answered codeword) (replicate 32 0xFF))
-    -- of 255 ones, and of 254: number 9
+    -- 255 and 254 are none, and could be mended only where places were cut away
     ∷ (word 255 (replicate 31 0xFF ++ 0xFE ∷ []), words 9 (answered beyond) (replicate 31 0xFF ++ 0xFE ∷ []))
     ∷ (word 254 (replicate 31 0xFF ++ 0xFC ∷ []), words 9 (answered beyond) (replicate 31 0xFF ++ 0xFC ∷ []))
-    -- A with a spare bit set: clean, output all zero
+    -- A, and a spare bit set
     ∷ (decode 18 2 (0x00 ∷ 0x00 ∷ 0x20 ∷ zeros 51), decodes 0 (ended clean 0 0 0 0) (zeros 54))
     ∷ []
 
@@ -196,10 +196,10 @@ ten = 0x17 ∷ 0xB1 ∷ 0xC0 ∷ zeros 51
 
 unfoldable pub more : List (Asked × Got)
 more =
-    -- "Fixing two located errors when the overall parity says three."
+    -- three wrong bits, of which the remainder alone locates two others
     (word 32 three, words 9 (answered beyond) three)
     ∷ (word 32 pair, words 0 (answered (twoPlaces 16 30)) (zeros 4))
-    -- "Handing out the half-mended frame when stuck."
+    -- stuck after a bit was mended: the received bytes
     ∷ (decode 18 2 half, decodes 7 (ended stuck 2 1 3 3) half)
     -- pass 3 decodes the rows again
     ∷ (decode 18 3 (rows3 0xE0 0xD0 0xC8), decodes 0 (ended repaired 3 9 0 0) (zeros 54))
@@ -219,7 +219,7 @@ pub more-items : MoreItems
 unfolding computing nines got quick more
 more-items = record { shown = quickly more refl; located = refl }
 
--- ---- The items without a star: the ranges of n, of the allowance and of the sizes
+-- ---- Where the ranges of n, of the allowance and of the sizes end
 
 -- the number that refuses: n, allowance, bytes received, bytes lent
 unfoldable pub refusal : ℕ → ℕ → ℕ → ℕ → ℕ
@@ -227,11 +227,11 @@ refusal n allowance received lent = decodeRefusal n allowance (zeros received) (
 
 abbrev pub Ranges : Type 0
 Ranges =
-    -- "n = 17 and 257: number 1; 18 and 256 accepted."
+    -- n: one too small, one too great, the smallest, the greatest
     refusal 17 2 51 51 ∷ refusal 257 2 8481 8481 ∷ refusal 18 2 54 54 ∷ refusal 256 2 8192 8192
-    -- "Allowance 0 and 33: number 4; 1 and 32 accepted."
+    -- the allowance, likewise
     ∷ refusal 18 0 54 54 ∷ refusal 18 33 54 54 ∷ refusal 18 1 54 54 ∷ refusal 18 32 54 54
-    -- "Frame buffer 53 or 55 bytes at n = 18: number 2; 54 accepted."; and the lent one, number 3
+    -- the received bytes one too few and one too many, and the lent ones
     ∷ refusal 18 2 53 54 ∷ refusal 18 2 55 54 ∷ refusal 18 2 54 53 ∷ refusal 18 2 54 55 ∷ []
     ≡ 1 ∷ 1 ∷ 0 ∷ 0 ∷ 4 ∷ 4 ∷ 0 ∷ 0 ∷ 2 ∷ 2 ∷ 3 ∷ 3 ∷ []
 
@@ -239,7 +239,7 @@ pub ranges : Ranges
 unfolding computing nines refusal
 ranges = refl
 
--- ---- "At n = 18 there are two codewords: zero, and B7 B1 C0 (twelve ones)."
+-- ---- The codewords of 18 bits
 
 pub record TwoCodewords : Type 0 where
   pub both : (isCodeword 18 (wordOf 18 o 0) ≡ true) × (isCodeword 18 (wordOf 18 c 0) ≡ true)

@@ -1,4 +1,4 @@
--- Codewords are what document 01 says: the polynomial is divisible by g, and the number of ones is even.
+-- RULES 2: a word is a codeword exactly if g divides its polynomial and its ones are even in number.
 -- Assumes nothing.
 use mathlib.Core.Path.{_≡_}
 use mathlib.Core.Logic.{_↔_}
@@ -13,8 +13,7 @@ use Rattle.algebra.proofs.DivisionLaws.{divides}
 use Rattle.rules.specs.Words.{g, remainder, checks, isCodeword}
 use Rattle.rules.proofs.Laws.CheckLaws.{low, low-small, g-low, codeword-checks, checks-codeword}
 
--- "For j from 0 to n − 2, bit j is the coefficient of z^(n−2−j). .. the remainder that makes the polynomial divisible by g, and
--- bit n − 1 makes the number of ones even. A codeword is any n bits for which both hold."
+-- all bits but the last are the coefficients of a multiple of g, the highest power first; and the ones of all bits are even in number
 abbrev pub Codewords : Type 0
 Codewords =
     (n : ℕ) (w : Word) → (isCodeword n w ≡ true) ↔ (Multiple g (fromCoefficients 0 (take (n - 1) w)) × (ones w % 2 ≡ 0))

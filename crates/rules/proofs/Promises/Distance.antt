@@ -1,4 +1,4 @@
--- Document 01: "Distinct codewords differ in at least 6 places. Lengths below 256 are shortened".
+-- RULES 2: how far codewords are apart, and that short words are long ones with zeros cut away.
 -- Assumes nothing.
 use mathlib.Core.Path.{_≡_, sym, ap, ap₂, _∙_}
 use mathlib.Core.Logic.{_≢_}
@@ -29,11 +29,11 @@ use Rattle.rules.proofs.Laws.PowerSumLaws.{part, part-additive, part-ca
 abbrev pub DistanceAt : ℕ → Type 0
 DistanceAt d = (n : ℕ) → 18 ≤ n → n ≤ 256 → (w u : Word) → Codeword n w → Codeword n u → w ≢ u → d ≤ differ w u
 
--- "Distinct codewords differ in at least 6 places."
+-- six places
 abbrev pub Distance : Type 0
 Distance = DistanceAt 6
 
--- "Lengths below 256 are shortened": z zeros before a word change none of its checks.
+-- z zeros in front of a word change none of its checks
 abbrev pub Shortened : Type 0
 Shortened = (n z : ℕ) → 18 ≤ n → (w : Word) → length w ≡ n → checks (z + n) (replicate z false ++ w) ≡ checks n w
 

@@ -1,4 +1,4 @@
--- Each definition keeps its rule, and nothing else does; and the number of each answer.
+-- RULES 6: each definition keeps its rule, and nothing else does; and the number of each answer.
 -- Assumes nothing.
 use mathlib.Core.Path.{_≡_, refl, sym, ap, _∙_}
 use mathlib.Core.Logic.{_≢_, _↔_, inl, inr, Iff·trans}
@@ -27,8 +27,7 @@ use Rattle.rules.proofs.Promises.Determined.{frame-all, determined}
 abbrev pub fiveFigures : ℕ → ℕ → ℕ → ℕ → ℕ → Figures
 fiveFigures number p f r c = record { number = number; passes = p; flips = f; rows = r; columns = c }
 
--- the number and the values, case by case: "Passes and flips stand for 0, 7 and 8; rows and columns for 7 and 8; all else is
--- zero."
+-- the number and the values, case by case
 pub record NumbersPromise : Type 0 where
   pub refused-is : (r : ℕ) → figuresOf (refused r) ≡ fiveFigures r 0 0 0 0
   pub clean-is : (p f r c : ℕ) → figuresOf (ended clean p f r c) ≡ fiveFigures 0 p f 0 0
@@ -36,11 +35,11 @@ pub record NumbersPromise : Type 0 where
   pub stuck-is : (p f r c : ℕ) → figuresOf (ended stuck p f r c) ≡ fiveFigures 7 p f r c
   pub spent-is : (p f r c : ℕ) → figuresOf (ended spent p f r c) ≡ fiveFigures 8 p f r c
   pub word-refused-is : (r : ℕ) → wordNumber (wordRefused r) ≡ r
-  -- "word accepted"
+  -- codeword, one place, two places
   pub codeword-is : wordNumber (answered codeword) ≡ 0
   pub one-is : (p : ℕ) → wordNumber (answered (onePlace p)) ≡ 0
   pub two-is : (p q : ℕ) → wordNumber (answered (twoPlaces p q)) ≡ 0
-  -- "no codeword within two (single word)"
+  -- beyond
   pub beyond-is : wordNumber (answered beyond) ≡ 9
 
 -- what is said and the output at exit keep the rule

@@ -1,4 +1,4 @@
--- Each entry point as a rule in document 01's words: what it returns, and what the lent output holds at exit.
+-- RULES 6, without a definition of an entry point: what each returns, and what the lent output has at exit.
 -- Assumes nothing.
 use mathlib.Core.Path.{_≡_}
 use mathlib.Core.Logic.{_≢_, _⊎_}
@@ -19,21 +19,21 @@ use Rattle.rules.proofs.Promises.Refusals.{GoodRow, rowOfBytes}
 abbrev pub Reasons : Type 1
 Reasons = List (Type 0 × ℕ)
 
--- "Checks go in order of number; the first that applies is given, and none is given otherwise."
+-- the number of the first reason that is there; 0 where none is
 abbrev pub Given : Reasons → ℕ → Type 0
 Given [] r = r ≡ 0
 Given (reason ∷ later) r = (reason .0 × (r ≡ reason .1)) ⊎ ((¬ (reason .0)) × Given later r)
 
--- "n is not 18..256", "input length is not exactly that of n", "output length is not exact"
+-- reasons 1, 2 and 3: the range of n, the length of the input, that of the output
 abbrev pub sizes : ℕ → List ℕ → ℕ → List ℕ → ℕ → Reasons → Reasons
 sizes n input takes output gives later =
     (¬ ((18 ≤ n) × (n ≤ 256)), 1) ∷ (length input ≢ takes, 2) ∷ (length output ≢ gives, 3) ∷ later
 
--- "data has a spare bit set", of k rows of k bits
+-- some spare bit of k rows of k bits is set
 abbrev pub SpareSet : ℕ → List ℕ → Type 0
 SpareSet k s = (i : ℕ) × (j : ℕ) × (i < k) × (k ≤ j) × (j < stride k) × (bitAt s (i * stride k + j) ≡ true)
 
--- "every row and every column a codeword"
+-- all rows and all columns are codewords
 abbrev pub AllCodewords : ℕ → Frame → Type 0
 AllCodewords n f = ((i : ℕ) → i < n → Codeword n (row f i)) × ((j : ℕ) → j < n → Codeword n (row (transposed n f) j))
 
@@ -42,14 +42,14 @@ encodeReasons n input output = sizes n input (dataBytes n) output (frameBytes n)
 
 pub record EncodeRule (n : ℕ) (input output : List ℕ) (r : ℕ) (exit : List ℕ) : Type 0 where
   pub number : Given (encodeReasons n input output) r
-  -- "untouched"
+  -- refused: the output is as it was
   pub untouched : r ≢ 0 → exit ≡ output
-  -- a frame of codewords with this data in its "upper left corner", spare bits zero
+  -- the output is a frame that has these data in its corner, spare bits zero
   pub done :
       r ≡ 0
       → (f : Frame) × Square n f × AllCodewords n f × (corner (dataBits n) f ≡ frameOf (dataBits n) input) × (exit ≡ bytesOf n f)
 
--- "not a frame of codewords, code bits only"
+-- reason 6: the code bits are no frame
 abbrev pub readReasons : ℕ → List ℕ → List ℕ → Reasons
 readReasons n input output =
     sizes n input (frameBytes n) output (dataBytes n) ((¬ AllCodewords n (frameOf n input), 6) ∷ [])
@@ -57,15 +57,15 @@ readReasons n input output =
 pub record ReadRule (n : ℕ) (input output : List ℕ) (r : ℕ) (exit : List ℕ) : Type 0 where
   pub number : Given (readReasons n input output) r
   pub untouched : r ≢ 0 → exit ≡ output
-  -- "Reading data takes no notice of the frame's spare bits and writes the data's as zero."
+  -- the output is the frame's corner, spare bits zero; those of the frame do not matter
   pub done : r ≡ 0 → exit ≡ bytesOf (dataBits n) (corner (dataBits n) (frameOf n input))
 
--- "allowance is not 1..32"
+-- reason 4: the range of the allowance
 abbrev pub decodeReasons : ℕ → ℕ → List ℕ → List ℕ → Reasons
 decodeReasons n allowance input output =
     sizes n input (frameBytes n) output (frameBytes n) ((¬ ((1 ≤ allowance) × (allowance ≤ 32)), 4) ∷ [])
 
--- "the frame", or "the received bytes, spare bits too"
+-- the frame of a success; else what was received
 abbrev pub written : ℕ → List ℕ → Ending → Frame → List ℕ
 written n input clean f = bytesOf n f
 written n input repaired f = bytesOf n f
@@ -76,17 +76,17 @@ pub record DecodeRule (n allowance : ℕ) (input output : List ℕ) (said : Deco
   pub refusal : ℕ
   pub number : Given (decodeReasons n allowance input output) refusal
   pub refuses : refusal ≢ 0 → (said ≡ refused refusal) × (exit ≡ output)
-  -- "how it ended, the passes made, the bits flipped .. the number of rows and of columns that are not codewords"
+  -- an outcome that keeps the pass rule, and what is said of it
   pub ends :
       refusal ≡ 0
       → (o : Outcome) × PassRule n allowance (frameOf n input) o
       × (said ≡ ended (o .ending) (o .passes) (o .flips) (o .rows) (o .columns)) × (exit ≡ written n input (o .ending) (o .last))
 
--- "Numbers 1 to 3 are checked before it."
+-- a single word is refused for its sizes alone
 abbrev pub wordReasons : ℕ → List ℕ → List ℕ → Reasons
 wordReasons n input output = sizes n input (rowBytes n) output (rowBytes n) []
 
--- "An accepted word has its spare bits zero"; for number 9 "the received bytes, spare bits too"
+-- the codeword, spare bits zero; where there is none, what was received
 abbrev pub writtenWord : ℕ → List ℕ → Answer → List ℕ
 writtenWord n input codeword = wordBytes n (wordOf n input 0)
 writtenWord n input (onePlace p) = wordBytes n (changed (p ∷ []) (wordOf n input 0))
@@ -97,11 +97,11 @@ pub record WordRule (n : ℕ) (input output : List ℕ) (said : WordSaid) (exit 
   pub refusal : ℕ
   pub number : Given (wordReasons n input output) refusal
   pub refuses : refusal ≢ 0 → (said ≡ wordRefused refusal) × (exit ≡ output)
-  -- "A word's answer is one of four"
+  -- an answer that fits the four-way statement
   pub answers :
       refusal ≡ 0 → (a : Answer) × Fits n (wordOf n input 0) a × (said ≡ answered a) × (exit ≡ writtenWord n input a)
 
--- "that part of the caller's own bytes"; "with n or length wrong, or i not below n, returns an empty part"
+-- the bytes of a row that is there; else none
 pub record RowRule (n : ℕ) (input : List ℕ) (i : ℕ) (r : List ℕ) : Type 0 where
   pub part : GoodRow n input i → r ≡ rowOfBytes n input i
   pub empty : ¬ GoodRow n input i → r ≡ []

@@ -1,4 +1,4 @@
--- Decode's answer as one number: every value has room in it, and is read back.
+-- RULES 7: decode's answer as one number: every value has room in it, and is read back.
 -- Assumes nothing.
 use mathlib.Core.Path.{_≡_, refl, sym, ap, _∙_}
 use mathlib.Core.Bool.{Bool, true, false, not, cond}
@@ -34,7 +34,7 @@ pub record Packs : Type 0 where
   pub fits : (n allowance : ℕ) (received output : List ℕ) → HasRoom (figuresOf (decodeSaid n allowance received output))
   pub in-64-bits : (f : Figures) → HasRoom f → packedFigures f < 2 ^ 64
   pub read-back : (f : Figures) → HasRoom f → unpackedFigures (packedFigures f) ≡ f
-  -- bench item C with allowance 1: number 8, 1 pass, 0 flips, 2 rows, 18 columns. In hex, 0012 0002 0000 01 08
+  -- RULES 10, item C at allowance 1, as a number. In hex, 0012 0002 0000 01 08
   pub example :
       packedFigures (record { number = 8; passes = 1; flips = 0; rows = 2; columns = 18 }) ≡ 5066558170726664
 

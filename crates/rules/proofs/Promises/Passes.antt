@@ -1,4 +1,4 @@
--- Document 01's pass rule, stated without the recursion of its definition: it holds of `decoded`, and of nothing else.
+-- RULES 5: the pass rule, stated without the recursion of its definition. It holds of `decoded`, and of nothing else.
 -- Assumes nothing.
 use mathlib.Core.Path.{_≡_, refl, sym, ap, ap₂, _∙_}
 use mathlib.Core.Logic.{_↔_}
@@ -20,7 +20,7 @@ use Rattle.rules.proofs.Laws.PassLaws.{passRows-row, passColumns-row, p
 
 -- ---- The statement
 
--- "pass 1 decodes every row, pass 2 every column, and so on in turn": the frame after p passes
+-- the frame after p passes: rows at odd ones, columns at even ones
 unfoldable pub after : ℕ → Frame → ℕ → Frame
 after n f zero = f
 after n f (suc p) = cond (isOdd (suc p)) (passRows n (after n f p)) (passColumns n (after n f p))
@@ -29,11 +29,11 @@ after n f (suc p) = cond (isOdd (suc p)) (passRows n (after n f p)) (passColumns
 abbrev pub changedBits : ℕ → Frame → ℕ → ℕ
 changedBits n f p = differences n (after n f p) (after n f (suc p))
 
--- "every row and column is a codeword"
+-- there is a frame after p passes
 abbrev pub WholeAfter : ℕ → Frame → ℕ → Type 0
 WholeAfter n f p = isFrame n (after n f p) ≡ true
 
--- "this is pass 2 or later and it changed no bit"
+-- pass p flipped nothing, and is not the first
 abbrev pub Idle : ℕ → Frame → ℕ → Type 0
 Idle n f p = (2 ≤ p) × (changedBits n f (p - 1) ≡ 0)
 
@@ -44,22 +44,21 @@ pub record Running (n a : ℕ) (f : Frame) (p : ℕ) : Type 0 where
   pub allowed : p ≤ a
   pub before : (q : ℕ) → 1 ≤ q → q < p → (¬ WholeAfter n f q) × (¬ Idle n f q)
 
--- "If it is a frame of codewords, it is clean, with 0 passes"; else "the passes end at the first of these that holds"
+-- what each ending says: clean of the received frame; the others of the first pass at which a test is met, in their order
 abbrev pub Ends : ℕ → ℕ → Frame → ℕ → Ending → Type 0
 Ends n a f p clean = (p ≡ 0) × (isFrame n f ≡ true)
 Ends n a f p repaired = Running n a f p × WholeAfter n f p
 Ends n a f p stuck = Running n a f p × (¬ WholeAfter n f p) × Idle n f p
 Ends n a f p spent = Running n a f p × (¬ WholeAfter n f p) × (¬ Idle n f p) × (p ≡ a)
 
--- "for stuck and spent" alone
+-- what is counted for stuck and spent alone
 abbrev pub left : Ending → ℕ → ℕ
 left clean x = 0
 left repaired x = 0
 left stuck x = x
 left spent x = x
 
--- "how it ended, the passes made, the bits flipped (summed over all passes), and for stuck and spent the number of rows and of
--- columns that are not codewords in the last frame"
+-- every value of an outcome: the flips are those of each pass, added up, and rows and columns are counted in the last frame
 pub record PassRule (n a : ℕ) (f : Frame) (o : Outcome) : Type 0 where
   pub ends : Ends n a f (o .passes) (o .ending)
   pub last-is : o .last ≡ after n f (o .passes)
@@ -68,7 +67,7 @@ pub record PassRule (n a : ℕ) (f : Frame) (o : Outcome) : Type 0 where
   pub columns-are : o .columns ≡ left (o .ending) (badColumns n (after n f (o .passes)))
 
 pub record PassesPromise : Type 0 where
-  -- "In a pass each word that has a codeword within two is replaced by it; each other word is left."
+  -- each word of a pass by its own answer
   pub in-rows : (n : ℕ) (f : Frame) (i : ℕ) → i < n → row (passRows n f) i ≡ mend n (row f i)
   pub in-columns : (n : ℕ) (f : Frame) (j : ℕ) → j < n → row (transposed n (passColumns n f)) j ≡ mend n (row (transposed n f) j)
   -- and there stay n rows of n bits

@@ -1,4 +1,4 @@
--- Document 01's table of numbers, of every entry point: which can occur, and what stands in the output for each.
+-- RULES 6: the table of numbers, of every entry point: which can occur, and what stands in the output for each.
 -- Assumes nothing.
 use mathlib.Core.Path.{_≡_, refl, sym, ap, _∙_}
 use mathlib.Core.Logic.{_≢_, _↔_, _⊎_, inl, inr}
@@ -24,15 +24,15 @@ use Rattle.rules.proofs.Laws.OneOfLaws.{OneOf, one-of-cons, one-of-back
 -- the table's rows for one entry point: the number given, and what the output holds then
 pub record NumberTable (refusals endings : List ℕ) (given : ℕ) (accepted input output out : List ℕ) : Type 0 where
   pub one : OneOf given (0 ∷ refusals ++ endings)
-  -- "the frame, data or word"
+  -- 0: what was asked for
   pub done : given ≡ 0 → out ≡ accepted
-  -- "untouched"
+  -- refused: as it was
   pub untouched : OneOf given refusals → out ≡ output
-  -- "the received bytes, spare bits too"
+  -- stuck, spent or beyond: what was received
   pub received : OneOf given endings → out ≡ input
   pub long : length out ≡ length output
 
--- "n or length wrong, or i not below n" is not so
+-- n, the length and i are good
 abbrev pub GoodRow : ℕ → List ℕ → ℕ → Type 0
 GoodRow n input i = (18 ≤ n) × (n ≤ 256) × (length input ≡ frameBytes n) × (i < n)
 

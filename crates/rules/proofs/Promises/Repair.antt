@@ -1,4 +1,4 @@
--- Demand 3 over bytes: what was written comes back, and two written frames, spoiled so, never agree.
+-- Demand 3 over bytes: a spoiled frame comes back as it was written, and no two of different frames are alike.
 -- Assumes nothing.
 use mathlib.Core.Path.{_≡_, refl, sym, ap, _∙_}
 use mathlib.Core.Logic.{_≢_, _⊎_, inl, inr}
@@ -51,11 +51,11 @@ abbrev pub SpoiledAt : ℕ → ℕ → List ℕ → List ℕ → Type 0
 SpoiledAt rows n written received =
     (length received ≡ frameBytes n) × (spoilt 2 n (frameOf n written) (frameOf n received) ≤ rows)
 
--- "spoiled so that at most two rows have three or more wrong bits"
+-- the class of demand 3
 abbrev pub Spoiled : ℕ → List ℕ → List ℕ → Type 0
 Spoiled = SpoiledAt 2
 
--- "comes back exactly, in at most two passes"
+-- number 0, the written bytes, and two passes at the most
 pub record Back (n allowance : ℕ) (written received output : List ℕ) : Type 0 where
   pub zero : number (decodeSaid n allowance received output) ≡ 0
   pub bytes : decodeOutput n allowance received output ≡ written
@@ -65,7 +65,7 @@ pub record Back (n allowance : ℕ) (written received output : List ℕ) : Type 
 abbrev pub Agree : ℕ → List ℕ → List ℕ → Type 0
 Agree n s s′ = (i j : ℕ) → i < n → j < n → bitAt s (i * stride n + j) ≡ bitAt s′ (i * stride n + j)
 
--- what is spoiled in at most `rows` rows comes back "at any allowance of two or more"
+-- a frame with at most `rows` spoiled rows comes back, whatever the allowance from two on
 abbrev pub BackAt : ℕ → Type 0
 BackAt rows =
     (n allowance : ℕ) (written received output : List ℕ) → Written n written → SpoiledAt rows n written received → 2 ≤ allowance
@@ -73,7 +73,7 @@ BackAt rows =
 
 pub record RepairPromise : Type 0 where
   pub back : BackAt 2
-  -- "No two different written frames, spoiled so, can agree."
+  -- what comes from different frames differs in some code bit
   pub apart :
       (n : ℕ) (written written′ received received′ : List ℕ) → Written n written → Written n written′ → written ≢ written′
       → Spoiled n written received → Spoiled n written′ received′ → ¬ Agree n received received′

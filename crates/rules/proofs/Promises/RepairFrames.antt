@@ -1,4 +1,4 @@
--- Demand 3 over frames: a written frame with at most two rows of three or more wrong bits comes back, in at most two passes.
+-- Demand 3 over frames: a written frame with two spoiled rows or fewer comes back, after two passes at the most.
 -- Assumes nothing.
 use mathlib.Core.Path.{_≡_, refl, sym, ap, subst, _∙_}
 use mathlib.Core.Logic.{_⊎_, inl, inr}
@@ -26,13 +26,13 @@ pub record Restored (f : Frame) (o : Outcome) : Type 0 where
   pub frame : o .last ≡ f
   pub few : o .passes ≤ 2
 
--- any written frame with at most `rows` rows of three or more wrong bits comes back, at any allowance of two or more
+-- any written frame with at most `rows` spoiled rows comes back, whatever the allowance from two on
 abbrev pub RepairsFramesAt : ℕ → Type 0
 RepairsFramesAt rows =
     (n allowance : ℕ) → 18 ≤ n → n ≤ 256 → 2 ≤ allowance → (written received : Frame) → Square n written → Square n received
     → isFrame n written ≡ true → spoilt 2 n written received ≤ rows → Restored written (decoded n allowance received)
 
--- "spoiled so that at most two rows have three or more wrong bits"
+-- two spoiled rows
 abbrev pub RepairsFrames : Type 0
 RepairsFrames = RepairsFramesAt 2
 
@@ -105,7 +105,7 @@ repairs-frames n (suc (suc x)) h b a = λ f r sf sr k d. restored n h b f r sf s
 
 -- ---- What follows
 
--- "any eight wrong bits"
+-- any eight wrong bits
 pub eight : (n : ℕ) (f r : Frame) → differences n f r ≤ 8 → spoilt 2 n f r ≤ 2
 eight n f r d = few-wrong 2 n f r (omega arith)
 

@@ -1,4 +1,4 @@
--- The promise about bytes: what encoding writes is read and decoded back, whatever the spare bits.
+-- RULES 4 and 6: what encoding writes is read back, and is clean, whatever becomes of the spare bits.
 -- Assumes nothing.
 use mathlib.Core.Path.{_≡_, refl, sym, ap, _∙_}
 use mathlib.Core.Logic.{_↔_}
@@ -21,18 +21,18 @@ use Rattle.rules.proofs.Laws.NumberLaws.{Sized, encode-accepts, read-ac
 abbrev pub Received : ℕ → List ℕ → List ℕ → List ℕ → Type 0
 Received n input output s = (length s ≡ frameBytes n) × (frameOf n s ≡ frameOf n (encodeOutput n input output))
 
--- what document 01 says of input that encoding accepted
+-- what is said of data that encoding accepted
 pub record Trip (n : ℕ) (input output : List ℕ) : Type 0 where
   pub written : encodeOutput n input output ≡ bytesOf n (rowsFirst n (frameOf (dataBits n) input))
   -- so what is said below of any such list is said of what was written
   pub received : Received n input output (encodeOutput n input output)
-  -- "The encoder writes spare bits as zero"
+  -- no spare bit of what was written is set
   pub spares : spareOnes n (encodeOutput n input output) ≡ 0
-  -- the input's entries are bytes: "Reading data takes no notice of the frame's spare bits and writes the data's as zero."
+  -- the data are read back, if the input's entries are bytes
   pub reads :
       ((p : ℕ) → getD input p 0 < 256) → (s back : List ℕ) → Received n input output s → length back ≡ dataBytes n
       → (readNumber n s back ≡ 0) × (readOutput n s back ≡ input)
-  -- "If it is a frame of codewords, it is clean, with 0 passes."
+  -- decoding makes no pass, and hands out what was written
   pub decodes :
       (s out : List ℕ) (allowance : ℕ) → Received n input output s → length out ≡ frameBytes n → 1 ≤ allowance → allowance ≤ mostAllowed
       → (decodeSaid n allowance s out ≡ ended clean 0 0 0 0) × (decodeOutput n allowance s out ≡ encodeOutput n input output)
