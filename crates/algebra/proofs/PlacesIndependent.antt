@@ -1,4 +1,4 @@
--- The bound of PowerSums, said of numbers: 2 * t or fewer different exponents with all t odd sums zero are none.
+-- The bound of PowerSums, for numbers: 2 * t or fewer different exponents with all t odd sums zero are none.
 -- Assumes nothing.
 use mathlib.Core.Path.{_≡_, sym, ap, ap₂, _∙_}
 use mathlib.Core.Logic.{_≢_}

@@ -171,7 +171,7 @@ rowRefused n input i = outside n || notLong input (frameBytes n) || not (ltb i n
 unfoldable pub rowPart : ℕ → List ℕ → ℕ → List ℕ
 rowPart n input i = pick (rowRefused n input i) [] (take (rowBytes n) (drop (i * rowBytes n) input))
 
--- ---- The entry points, each as one: what is said, and what the output holds at exit
+-- ---- The entry points, each as one: what is said, and what the output has at exit
 
 pub record Exit (A : Type 0) : Type 0 where
   pub said : A

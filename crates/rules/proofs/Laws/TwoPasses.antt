@@ -56,7 +56,7 @@ module _
       row-back i l d =
           tab-at n (λ i. mend (row h i)) i [] l ∙ mends (row f i) (row h i) (sf .1 i l) (sh .1 i l) (rows i l) d
 
-      -- what is wrong after the row pass lies in a spoilt row
+      -- what is wrong after the row pass lies in a spoiled row
       wrong-lies :
           (i j : ℕ) → i < n
           → num (xor (cell f i j) (cell (rowsMended n mend h) i j)) ≤ num (leb (suc t) (differ (row f i) (row h i)))
@@ -73,7 +73,7 @@ module _
               ap (λ w. xor (cell f i j) (bit w j)) e ∙ xor-self (cell f i j) in
               omega (arith, ap num x)
 
-      -- so a column has at most as many wrong bits as there are spoilt rows
+      -- so a column has at most as many wrong bits as there are spoiled rows
       column-wrong :
           (j : ℕ) → j < n → differ (row (transposed n f) j) (row (transposed n (rowsMended n mend h)) j) ≤ spoilt t n f h
       unfolding spoilt

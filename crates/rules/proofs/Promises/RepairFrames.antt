@@ -120,7 +120,7 @@ pub two-columns :
     → ((i j : ℕ) → i < n → j < n → isIn j (p ∷ q ∷ []) ≡ false → cell f i j ≡ cell r i j) → spoilt 2 n f r ≤ 2
 two-columns n f r s sr p q same = omega (arith, columns-lost 2 n f r s sr (p ∷ q ∷ []) (omega arith) same)
 
--- two written frames, each spoiled so, that agree are one
+-- two written frames that, each spoiled, become the same are one
 pub spoiled-apart :
     (n : ℕ) → 18 ≤ n → n ≤ 256 → (f f′ r : Frame) → Square n f → Square n f′ → Square n r → isFrame n f ≡ true
     → isFrame n f′ ≡ true → spoilt 2 n f r ≤ 2 → spoilt 2 n f′ r ≤ 2 → f ≡ f′

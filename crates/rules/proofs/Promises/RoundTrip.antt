@@ -21,10 +21,10 @@ use Rattle.rules.proofs.Laws.NumberLaws.{Sized, encode-accepts, read-ac
 abbrev pub Received : ℕ → List ℕ → List ℕ → List ℕ → Type 0
 Received n input output s = (length s ≡ frameBytes n) × (frameOf n s ≡ frameOf n (encodeOutput n input output))
 
--- what is said of data that encoding accepted
+-- what follows for data that encoding accepted
 pub record Trip (n : ℕ) (input output : List ℕ) : Type 0 where
   pub written : encodeOutput n input output ≡ bytesOf n (rowsFirst n (frameOf (dataBits n) input))
-  -- so what is said below of any such list is said of what was written
+  -- what was written is itself such a list
   pub received : Received n input output (encodeOutput n input output)
   -- no spare bit of what was written is set
   pub spares : spareOnes n (encodeOutput n input output) ≡ 0
