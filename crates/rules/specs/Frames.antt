@@ -13,6 +13,7 @@ use Rattle.rules.specs.Words.{dataBits, isCodeword, encodeWord}
 abbrev pub Frame : Type 0
 Frame = List Word
 
+-- row i; past the last it is empty
 unfoldable pub row : Frame → ℕ → Word
 row f i = getD f i []
 

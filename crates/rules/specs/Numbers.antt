@@ -10,6 +10,7 @@ use Rattle.rules.specs.Frames.{corner, isFrame, rowsFirst}
 use Rattle.rules.specs.Bits.{rowBytes, squareBytes, wordOf, frameOf, wordBytes, bytesOf, spareOnes}
 use Rattle.rules.specs.Passes.{Ending, clean, repaired, stuck, spent, Outcome, decoded}
 
+-- one of two
 abbrev pub pick {ℓ} : {A : Type ℓ} → Bool → A → A → A
 pick true x y = x
 pick false x y = y
@@ -18,10 +19,11 @@ pick false x y = y
 abbrev pub outside : ℕ → Bool
 outside n = not (leb shortest n && leb n longest)
 
--- number 4: the allowance is out of range
+-- the greatest allowance
 abbrev pub mostAllowed : ℕ
 mostAllowed = 32
 
+-- number 4: the allowance is out of range
 abbrev pub notAllowed : ℕ → Bool
 notAllowed a = not (leb 1 a && leb a mostAllowed)
 
@@ -56,6 +58,7 @@ abbrev pub encodeRefusals : ℕ → List ℕ → List ℕ → RefusalList
 encodeRefusals n input output =
     sizeRefusals n input (dataBytes n) output (frameBytes n) ((not (eqb (spareOnes (dataBits n) input) 0), 5) ∷ [])
 
+-- the number that encoding gives
 unfoldable pub encodeNumber : ℕ → List ℕ → List ℕ → ℕ
 encodeNumber n input output = first (encodeRefusals n input output)
 
@@ -71,6 +74,7 @@ abbrev pub readRefusals : ℕ → List ℕ → List ℕ → RefusalList
 readRefusals n input output =
     sizeRefusals n input (frameBytes n) output (dataBytes n) ((not (isFrame n (frameOf n input)), 6) ∷ [])
 
+-- the number that reading gives
 unfoldable pub readNumber : ℕ → List ℕ → List ℕ → ℕ
 readNumber n input output = first (readRefusals n input output)
 
@@ -81,15 +85,18 @@ readOutput n input output =
 
 -- ---- Decoding
 
+-- what decoding says
 pub data Decoded : Type 0 where
   refused : ℕ → Decoded
   -- passes, flips, rows, columns
   ended : Ending → ℕ → ℕ → ℕ → ℕ → Decoded
 
+-- numbers 1 to 4
 abbrev pub decodeRefusals : ℕ → ℕ → List ℕ → List ℕ → RefusalList
 decodeRefusals n allowance input output =
     sizeRefusals n input (frameBytes n) output (frameBytes n) ((notAllowed allowance, 4) ∷ [])
 
+-- the number of the refusal; 0 where the passes are made
 unfoldable pub decodeRefusal : ℕ → ℕ → List ℕ → List ℕ → ℕ
 decodeRefusal n allowance input output = first (decodeRefusals n allowance input output)
 
@@ -97,6 +104,7 @@ decodeRefusal n allowance input output = first (decodeRefusals n allowance input
 abbrev pub told : Outcome → Decoded
 told o = ended (o .ending) (o .passes) (o .flips) (o .rows) (o .columns)
 
+-- the refusal, or what is said of the outcome
 unfoldable pub decodeSaid : ℕ → ℕ → List ℕ → List ℕ → Decoded
 decodeSaid n allowance input output =
     let r : ℕ = decodeRefusal n allowance input output in
@@ -107,6 +115,7 @@ abbrev pub handedOut : ℕ → List ℕ → Outcome → List ℕ
 handedOut n input o =
     elim (o .ending) [ clean ↦ bytesOf n (o .last) | repaired ↦ bytesOf n (o .last) | stuck ↦ input | spent ↦ input ]
 
+-- what is handed out; unchanged where it is refused
 unfoldable pub decodeOutput : ℕ → ℕ → List ℕ → List ℕ → List ℕ
 decodeOutput n allowance input output =
     pick (eqb (decodeRefusal n allowance input output) 0) (handedOut n input (decoded n allowance (frameOf n input))) output
@@ -127,21 +136,26 @@ figuresOf (ended repaired p f r c) = record { number = 0; passes = p; flips = f;
 figuresOf (ended stuck p f r c) = record { number = 7; passes = p; flips = f; rows = r; columns = c }
 figuresOf (ended spent p f r c) = record { number = 8; passes = p; flips = f; rows = r; columns = c }
 
+-- the number alone
 abbrev pub number : Decoded → ℕ
 number d = figuresOf d .number
 
 -- ---- A single word
 
+-- what decoding a single word says
 pub data WordSaid : Type 0 where
   wordRefused : ℕ → WordSaid
   answered : Answer → WordSaid
 
+-- numbers 1 to 3
 abbrev pub wordRefusals : ℕ → List ℕ → List ℕ → RefusalList
 wordRefusals n input output = sizeRefusals n input (rowBytes n) output (rowBytes n) []
 
+-- the number of the refusal; 0 where the word is answered
 unfoldable pub wordRefusal : ℕ → List ℕ → List ℕ → ℕ
 wordRefusal n input output = first (wordRefusals n input output)
 
+-- the refusal, or the answer
 unfoldable pub wordSaid : ℕ → List ℕ → List ℕ → WordSaid
 wordSaid n input output =
     let r : ℕ = wordRefusal n input output in pick (eqb r 0) (answered (answer n (wordOf n input 0))) (wordRefused r)
@@ -171,8 +185,9 @@ rowRefused n input i = outside n || notLong input (frameBytes n) || not (ltb i n
 unfoldable pub rowPart : ℕ → List ℕ → ℕ → List ℕ
 rowPart n input i = pick (rowRefused n input i) [] (take (rowBytes n) (drop (i * rowBytes n) input))
 
--- ---- The entry points, each as one: what is said, and what the output has at exit
+-- ---- The entry points, each as one
 
+-- what is said, and what the output has at exit
 pub record Exit (A : Type 0) : Type 0 where
   pub said : A
   pub output : List ℕ

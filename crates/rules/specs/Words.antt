@@ -43,6 +43,7 @@ checks n w = 2 * remainder n w + ones w % 2
 unfoldable pub isCodeword : ℕ → Word → Bool
 isCodeword n w = eqb (checks n w) 0
 
+-- a codeword of n bits
 abbrev pub Codeword : ℕ → Word → Type 0
 Codeword n w = (length w ≡ n) × (isCodeword n w ≡ true)
 
@@ -77,11 +78,11 @@ nearest n w = within 2 (values n) (checks n w)
 
 -- the four answers
 pub data Answer : Type 0 where
-  -- nothing is to be changed
+  -- the word is one
   codeword : Answer
-  -- the bit here is
+  -- it is one after this place is changed
   onePlace : ℕ → Answer
-  -- the bits here are; the lower place stands first
+  -- it is one after these two are changed, the lower first
   twoPlaces : ℕ → ℕ → Answer
   -- every codeword differs in three places or more
   beyond : Answer
@@ -94,6 +95,7 @@ asAnswer (some (p ∷ q ∷ [])) = twoPlaces p q
 asAnswer (some (p ∷ q ∷ o ∷ ps)) = beyond
 asAnswer none = beyond
 
+-- the answer to a word
 unfoldable pub answer : ℕ → Word → Answer
 answer n w = asAnswer (nearest n w)
 
