@@ -25,7 +25,7 @@ pub enum Ending {
     Spent,
 }
 
-// How it ended, the passes made, the bits flipped, and for stuck and spent the rows and columns that are not codewords.
+// Flips are added up over the passes. Rows and columns are those left at the end that are no codewords: only stuck and spent have any.
 pub struct Report {
     pub ending: Ending,
     pub passes: usize,
@@ -74,7 +74,7 @@ fn not_allowed(allowance: usize) -> bool
     MOST_ALLOWED < allowance
 }
 
-// Whether this is pass 2 or later and it changed no bit.
+// A pass that flipped nothing, but for pass 1: the columns may still mend what the rows could not.
 fn is_stuck(pass: usize, changes: usize) -> bool
     ensures { λ r. ⌜ r ≡ isStuck pass changes ⌝ }
 {

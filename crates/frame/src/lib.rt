@@ -1,4 +1,4 @@
-// Square code frames: n rows of n bits, every row and every column a codeword.
+// Square code frames.
 mod corner;
 pub mod decode;
 pub mod encode;

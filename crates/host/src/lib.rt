@@ -1,3 +1,3 @@
-// The desktop's host program is written in C: encode, decode and read on numbers and byte slices.
+// What C calls.
 pub mod exports;
 mod pack;

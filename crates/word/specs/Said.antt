@@ -1,4 +1,4 @@
--- From what `rules` says of a word to the code's enums, and document 01's number for each case of them.
+-- From what the rules say of a word to the code's enums, and the number of each of their cases.
 use Prim.Native.Nat.{ℕ}
 use Rattle.rules.specs.Words as rules
 use Rattle.rules.specs.Numbers as numbers
@@ -24,7 +24,7 @@ changes (OnePlace p) = 1
 changes (TwoPlaces p q) = 2
 changes Beyond = 0
 
--- document 01's number
+-- the number of the rules
 abbrev pub numberOf : Said → ℕ
 numberOf (Refused r) = r
 numberOf (Answered Codeword) = 0

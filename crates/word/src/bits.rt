@@ -1,4 +1,4 @@
-// Bits of a packed buffer: bit 0 is the top bit of the first byte.
+// Bits of a packed buffer, from the top of each byte down.
 ghost use mathlib.Core.Path.{_≡_};
 ghost use Prim.Native.Nat.{_+_, _*_, _<_, _≤_};
 ghost use lib.ListN.{length};
