@@ -1,6 +1,6 @@
 // The field of 256 elements.
-pub mod logs;
-pub mod powers;
+mod logs;
+mod powers;
 
 pub use logs::log;
 pub use powers::power;

@@ -2,21 +2,33 @@
 use word::decode::Said;
 use word::locate::Answer;
 ghost use mathlib.Core.Path.{_≡_};
-ghost use Prim.Native.Nat.{_+_, _*_, _<_};
+ghost use Rattle.word.specs.declared.locate.Answer.the-variants.{OnePlace, TwoPlaces};
 ghost use Rattle.probe.specs.Calls.{packedAnswer, packedWord, SmallAnswer, SmallSaid};
 
+// How many places there are, at bit 8; the units of the first, at bit 16, and of the second, at bit 32.
+const ONE: u64 = 256;
+
+const TWO: u64 = 512;
+
+const FIRST: u64 = 65536;
+
+const SECOND: u64 = 4294967296;
+
+// The number where no codeword is near enough.
+const BEYOND: u64 = 9;
+
 fn one_place(p: usize) -> u64
-    requires { ⌜ p < 65536 ⌝ }
-    ensures { λ r. ⌜ r ≡ 256 + p * 65536 ⌝ }
+    requires { ⌜ SmallAnswer (OnePlace p) ⌝ }
+    ensures { λ r. ⌜ r ≡ packedAnswer (OnePlace p) ⌝ }
 {
-    256 + p as u64 * 65536
+    ONE + p as u64 * FIRST
 }
 
 fn two_places(p: usize, q: usize) -> u64
-    requires { ⌜ (p < 65536) × (q < 65536) ⌝ }
-    ensures { λ r. ⌜ r ≡ 512 + p * 65536 + q * 4294967296 ⌝ }
+    requires { ⌜ SmallAnswer (TwoPlaces p q) ⌝ }
+    ensures { λ r. ⌜ r ≡ packedAnswer (TwoPlaces p q) ⌝ }
 {
-    512 + p as u64 * 65536 + q as u64 * 4294967296
+    TWO + p as u64 * FIRST + q as u64 * SECOND
 }
 
 fn pack_answer(a: Answer) -> u64
@@ -27,7 +39,7 @@ fn pack_answer(a: Answer) -> u64
         Answer::Codeword => 0,
         Answer::OnePlace(p) => one_place(p),
         Answer::TwoPlaces(p, q) => two_places(p, q),
-        Answer::Beyond => 9,
+        Answer::Beyond => BEYOND,
     }
 }
 

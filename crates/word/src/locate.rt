@@ -19,9 +19,9 @@ pub enum Answer {
     Beyond,
 }
 
-pub struct PowerSums {
-    pub s1: u8,
-    pub s3: u8,
+struct PowerSums {
+    s1: u8,
+    s3: u8,
 }
 
 // The values of a remainder at a and at a^3.

@@ -1,4 +1,4 @@
-// The numbers that a call answers, in the order in which they are checked. Number 0 says that it was done.
+// The numbers that frames are answered by, in the order in which they are looked for. Number 0 says that it was done.
 pub const DONE: u32 = 0;
 
 pub const BAD_N: u32 = 1;
@@ -16,5 +16,3 @@ pub const NOT_CODEWORDS: u32 = 6;
 pub const STUCK: u32 = 7;
 
 pub const SPENT: u32 = 8;
-
-pub const BEYOND: u32 = 9;
