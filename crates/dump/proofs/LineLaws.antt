@@ -10,7 +10,7 @@ use lib.Seq.{take-all}
 use borrow.Author.Tests.{not-true, not-false}
 use Rattle.rules.specs.Numbers.{decodeSaid}
 use Rattle.rules.specs.Text.{Text, isHex, hexBytes}
-use Rattle.rules.specs.Dump.{Line, badLine, aRecord, longest, questioned, recordText, lineText, lineOf}
+use Rattle.rules.specs.Dump.{Line, badLine, aRecord, longestLine, questioned, recordText, lineText, lineOf}
 use Rattle.frame.specs.declared.decode.Report.{Report}
 use Rattle.frame.specs.Said.{reportOf}
 use Rattle.text.specs.declared.record.Head.{Head}
@@ -27,7 +27,7 @@ digitsAt s from = take (length s - from) (drop from s)
 digits-rest : (s : Text) (from : ℕ) → digitsAt s from ≡ drop from s
 digits-rest s from = take-all (length s - from) (drop from s) (omega (arith, length-drop from s))
 
-pub digits-short : (s : Text) (from : ℕ) → length s ≤ longest → length (digitsAt s from) ≤ longest
+pub digits-short : (s : Text) (from : ℕ) → length s ≤ longestLine → length (digitsAt s from) ≤ longestLine
 digits-short s from h = omega (arith, ap length (digits-rest s from), length-drop from s)
 
 -- the test that the code made, of a part as the code has it
@@ -53,7 +53,7 @@ module _ (s : Text) (h : Head) (e : h ≡ headOf s) (k : ℕ) (out : List ℕ) (
 
     -- what decoding the frame said is what the line reports
     pub record-reported :
-        length s ≤ longest → not x ≡ false → (a : Report)
+        length s ≤ longestLine → not x ≡ false → (a : Report)
         → a ≡ reportOf (decodeSaid (h .n) (h .allowance) (hexBytes (digitsAt s (h .frame))) (hexBytes (digitsAt s (h .frame))))
         → Lays out at (reportText (h .number) a) r exit → Lays out at (lineText k (lineOf s)) r exit
     record-reported short b a w l =

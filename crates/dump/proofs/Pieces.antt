@@ -12,7 +12,7 @@ use lib.ListN.{length, take, drop}
 use lib.Seq.{take-at}
 use Rattle.rules.specs.Numbers.{pick}
 use Rattle.rules.specs.Text.{Text}
-use Rattle.rules.specs.Dump.{longest, report}
+use Rattle.rules.specs.Dump.{longestLine, report}
 use Rattle.dump.specs.declared.state.State.{State}
 use Rattle.dump.specs.declared.state.Step.{Step}
 use Rattle.dump.specs.declared.state.Taken.{Taken}
@@ -61,7 +61,7 @@ pub record Pieces : Type 0 where
       → lineRoom ≤ length out → 0 < length p → 0 < r .taken
   -- from the start, with a line buffer that holds anything. Past 2^64 lines the line numbers would not fit a machine word
   pub whole :
-      (line : List ℕ) → length line ≡ longest → (calls : List Call) (out : List ℕ) (n : ℕ) (exit : List ℕ)
+      (line : List ℕ) → length line ≡ longestLine → (calls : List Call) (out : List ℕ) (n : ℕ) (exit : List ℕ)
       → Calls atStart line calls out n exit → suc (length (inputOf calls)) < 2 ^ 64
       → textOf calls n exit ≡ report (inputOf calls)
 

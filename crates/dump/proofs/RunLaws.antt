@@ -12,12 +12,12 @@ use lib.ListN.{length, take, set, length-append, length-set}
 use lib.Seq.{take-suc-set}
 use borrow.Author.Tests.{eq-eqb, ne-eqb, lt-ltb, le-leb, lt-leb}
 use Rattle.rules.specs.Numbers.{pick}
-use Rattle.rules.specs.Text.{Text, lf, lines}
-use Rattle.rules.specs.Dump.{header, same, longest, goodHeader, badHeader, lineText, lineOf, reportFrom, underHeader, report}
+use Rattle.rules.specs.Text.{Text, lf, same, lines}
+use Rattle.rules.specs.Dump.{header, longestLine, goodHeader, badHeader, lineText, lineOf, reportFrom, underHeader, report}
 use Rattle.rules.proofs.Laws.TextLaws.{all-append}
 use Rattle.rules.proofs.Promises.Lines.{NoLF, lines-cut, lines-open}
 use Rattle.dump.specs.declared.state.State.{State}
-use Rattle.dump.specs.Stream.{atStart, held, closed, nextLine, longer, stateAfter, lineAfter, textAfter, textAtEnd}
+use Rattle.dump.specs.Stream.{atStart, held, lineSays, mostLines, nextLine, longer, stateAfter, lineAfter, textAfter, textAtEnd}
 use Rattle.dump.proofs.StateLaws.{held-kept, held-over, too-long-bad, too-long-header, after-ended, after-lf, after-other, end-ended, end-none, end-line, between-not}
 
 -- what is handed out from here on
@@ -43,31 +43,31 @@ run-ended (x ∷ m) s line e =
 -- p is what has come of it: the state and the buffer hold it, or know that it is too long
 abbrev Held : State → List ℕ → Text → Type 0
 Held s line p =
-    ((s .length ≡ length p) × (length p ≤ longest) × (take (s .length) line ≡ p)) ⊎ ((longest < s .length) × (longest < length p))
+    ((s .length ≡ length p) × (length p ≤ longestLine) × (take (s .length) line ≡ p)) ⊎ ((longestLine < s .length) × (longestLine < length p))
 
 record Partial (s : State) (line : List ℕ) (p : Text) : Type 0 where
   going : s .ended ≡ false
   some : 1 ≤ s .number
-  full : length line ≡ longest
+  full : length line ≡ longestLine
   no-lf : NoLF p
   is-held : Held s line p
 
 -- what it gives when it ends
-too-long-closed : (k : ℕ) (s t : Text) → longest < length s → longest < length t → closed k s ≡ closed k t
+too-long-closed : (k : ℕ) (s t : Text) → longestLine < length s → longestLine < length t → lineSays k s ≡ lineSays k t
 too-long-closed k s t h l =
     ap₂ (λ (b : Bool) (x : Text). pick (eqb k 1) (pick b goodHeader badHeader) x)
     (sym (too-long-header s h) ∙ too-long-header t l)
     (ap (lineText k) (too-long-bad s h ∙ sym (too-long-bad t l)))
 
 held-closed :
-    (k : ℕ) (s : State) (line : List ℕ) (p : Text) → length line ≡ longest → Held s line p
-    → closed k (held (s .length) line) ≡ closed k p
-held-closed k s line p f (inl h) = ap (closed k) (held-kept (s .length) line (omega (arith, f, h .0, h .1)) ∙ h .2)
+    (k : ℕ) (s : State) (line : List ℕ) (p : Text) → length line ≡ longestLine → Held s line p
+    → lineSays k (held (s .length) line) ≡ lineSays k p
+held-closed k s line p f (inl h) = ap (lineSays k) (held-kept (s .length) line (omega (arith, f, h .0, h .1)) ∙ h .2)
 held-closed k s line p f (inr h) =
     too-long-closed k (held (s .length) line) p (omega (arith, h .0, held-over (s .length) line (omega (arith, f, h .0)))) (h .1)
 
 held-same :
-    (s : State) (line : List ℕ) (p : Text) → length line ≡ longest → Held s line p
+    (s : State) (line : List ℕ) (p : Text) → length line ≡ longestLine → Held s line p
     → same (held (s .length) line) header ≡ same p header
 held-same s line p f (inl h) = ap (λ (t : Text). same t header) (held-kept (s .length) line (omega (arith, f, h .0, h .1)) ∙ h .2)
 held-same s line p f (inr h) =
@@ -82,7 +82,7 @@ remaining-line :
     → (k ≡ 1 → same p header ≡ true → t ≡ remaining 2 ls)
     → (k ≡ 1 → same p header ≡ false → t ≡ [])
     → (k ≢ 1 → t ≡ remaining (suc k) ls)
-    → closed k p ++ t ≡ remaining k (p ∷ ls)
+    → lineSays k p ++ t ≡ remaining k (p ∷ ls)
 unfolding remaining reportFrom
 remaining-line k p ls t some good bad more = go (ℕ-discrete k 1)
   where
@@ -90,7 +90,7 @@ remaining-line k p ls t some good bad more = go (ℕ-discrete k 1)
     first true q e = ap (λ (u : Text). goodHeader ++ u) (good e q)
     first false q e = ap (λ (u : Text). badHeader ++ u) (bad e q) ∙ append-nil badHeader
 
-    go : Dec (k ≡ 1) → closed k p ++ t ≡ pick (eqb k 1) (underHeader (p ∷ ls)) (reportFrom k (p ∷ ls))
+    go : Dec (k ≡ 1) → lineSays k p ++ t ≡ pick (eqb k 1) (underHeader (p ∷ ls)) (reportFrom k (p ∷ ls))
     go (yes e) =
         ap (λ (b : Bool). pick b (pick (same p header) goodHeader badHeader) (lineText k (lineOf p)) ++ t) (eq-eqb k 1 e)
         ∙ first (same p header) refl e
@@ -103,27 +103,27 @@ remaining-line k p ls t some good bad more = go (ℕ-discrete k 1)
 
 -- the state after its LF
 next-state :
-    (s : State) (line : List ℕ) (p : Text) → Partial s line p → s .number < 18446744073709551615
+    (s : State) (line : List ℕ) (p : Text) → Partial s line p → s .number < mostLines
     → nextLine s line ≡ record { number = suc (s .number); length = 0; ended = eqb (s .number) 1 && not (same p header) }
 next-state s line p g h =
     ap₂ {C = State} (λ (k : ℕ) (b : Bool). record { number = k; length = 0; ended = b })
-    (ap (λ (b : Bool). pick b (suc (s .number)) (s .number)) (lt-ltb (s .number) 18446744073709551615 h))
+    (ap (λ (b : Bool). pick b (suc (s .number)) (s .number)) (lt-ltb (s .number) mostLines h))
     (ap (λ (b : Bool). eqb (s .number) 1 && not b) (held-same s line p (g .full) (g .is-held)))
 
 -- ---- one more character
 
 longer-held :
-    (s : State) (line : List ℕ) (p : Text) (x : ℕ) → length line ≡ longest → Held s line p
+    (s : State) (line : List ℕ) (p : Text) (x : ℕ) → length line ≡ longestLine → Held s line p
     → Held (longer s) (set line (s .length) x) (p ++ (x ∷ []))
-longer-held s line p x f (inl h) = go (decLt (s .length) longest)
+longer-held s line p x f (inl h) = go (decLt (s .length) longestLine)
   where
     l : length (p ++ (x ∷ [])) ≡ length p + 1
     l = length-append p (x ∷ [])
 
     up : longer s .length ≡ suc (s .length)
-    up = ap (λ (b : Bool). pick b (suc (s .length)) (s .length)) (le-leb (s .length) longest (omega (arith, h .0, h .1)))
+    up = ap (λ (b : Bool). pick b (suc (s .length)) (s .length)) (le-leb (s .length) longestLine (omega (arith, h .0, h .1)))
 
-    go : Dec (s .length < longest) → Held (longer s) (set line (s .length) x) (p ++ (x ∷ []))
+    go : Dec (s .length < longestLine) → Held (longer s) (set line (s .length) x) (p ++ (x ∷ []))
     go (yes k) =
         inl (
           omega (arith, l, up, h .0),
@@ -135,7 +135,7 @@ longer-held s line p x f (inl h) = go (decLt (s .length) longest)
     go (no k) = inr (omega (arith, up, k), omega (arith, l, h .0, k))
 longer-held s line p x f (inr h) =
     inr (
-      omega (arith, h .0, ap (λ (b : Bool). pick b (suc (s .length)) (s .length)) (lt-leb (s .length) longest (h .0))),
+      omega (arith, h .0, ap (λ (b : Bool). pick b (suc (s .length)) (s .length)) (lt-leb (s .length) longestLine (h .0))),
       omega (arith, h .1, length-append p (x ∷ [])),
     )
 
@@ -197,7 +197,7 @@ end-open :
 end-open s line x p g =
     sym (end-line s line (g .going) (sym (between-not s (length-some s line x p (g .is-held)))))
     ∙ held-closed (s .number) s line (x ∷ p) (g .full) (g .is-held)
-    ∙ sym (append-nil (closed (s .number) (x ∷ p)))
+    ∙ sym (append-nil (lineSays (s .number) (x ∷ p)))
     ∙ remaining-line (s .number) (x ∷ p) [] [] (g .some) (λ e q. none-left 2 (λ w. omega (arith, w))) (λ e q. refl) (λ d. none-left (suc (s .number)) (λ e. d (omega (arith, g .some, e))))
 
 lines-none : lines [] ≡ []
@@ -207,7 +207,7 @@ lines-none = refl
 -- ---- every input
 
 begin-partial :
-    (k : ℕ) (line : List ℕ) → 1 ≤ k → length line ≡ longest → Partial (record { number = k; length = 0; ended = false }) line []
+    (k : ℕ) (line : List ℕ) → 1 ≤ k → length line ≡ longestLine → Partial (record { number = k; length = 0; ended = false }) line []
 begin-partial k line h f = record { going = refl; some = h; full = f; no-lf = tt; is-held = inl (refl, omega arith, refl) }
 
 abbrev Remains : Text → Type 0
@@ -220,7 +220,7 @@ lineState k b = record { number = k; length = 0; ended = b }
 
 -- a new line begins
 run-begun :
-    (m : Text) → Remains m → (k : ℕ) (line : List ℕ) (b : Bool) → b ≡ false → length line ≡ longest → suc k + length m < 2 ^ 64
+    (m : Text) → Remains m → (k : ℕ) (line : List ℕ) (b : Bool) → b ≡ false → length line ≡ longestLine → suc k + length m < 2 ^ 64
     → run (lineState (suc k) b) line m ≡ remaining (suc k) (lines m)
 run-begun m ih k line b e f h =
     ap (λ (c : Bool). run (lineState (suc k) c) line m) e
@@ -228,7 +228,7 @@ run-begun m ih k line b e f h =
 
 run-line :
     (m : Text) → Remains m → (s : State) (line : List ℕ) (p : Text) → Partial s line p → s .number + suc (length m) < 2 ^ 64
-    → closed (s .number) p ++ run (lineState (suc (s .number)) (eqb (s .number) 1 && not (same p header))) line m
+    → lineSays (s .number) p ++ run (lineState (suc (s .number)) (eqb (s .number) 1 && not (same p header))) line m
     ≡ remaining (s .number) (p ∷ lines m)
 run-line m ih s line p g h =
     let k : ℕ = s .number in
@@ -270,6 +270,6 @@ run-remaining [] s line (x ∷ p) g h =
 run-remaining (x ∷ m) s line p g h = run-step x m (run-remaining m) s line p g h
 
 pub run-report :
-    (line : List ℕ) (input : Text) → length line ≡ longest → suc (length input) < 2 ^ 64 → run atStart line input ≡ report input
+    (line : List ℕ) (input : Text) → length line ≡ longestLine → suc (length input) < 2 ^ 64 → run atStart line input ≡ report input
 unfolding remaining report
 run-report line input f h = run-remaining input atStart line [] (begin-partial 1 line (omega arith) f) (omega (arith, h))

@@ -2,7 +2,7 @@
 -- Assumes nothing.
 use mathlib.Core.Path.{_≡_, refl, sym, ap, ap₂, subst, _∙_}
 use mathlib.Core.Logic.{_≢_}
-use mathlib.Core.Bool.{Bool, true, false, not, _&&_, false≢true}
+use mathlib.Core.Bool.{Bool, true, false, not, _&&_}
 use mathlib.Core.List.{List, [], _++_, append-nil}
 use Prim.Native.Nat.{ℕ, suc, _+_, _-_, _≤_, _<_}
 use native.Mathlib.Nat.{add-zero, sub-zero}
@@ -13,24 +13,24 @@ use lib.ListN.{length, take, set, replicate, length-append, length-replicate}
 use lib.Seq.{set-out, take-all}
 use borrow.Author.Tests.{eq-eqb, ne-eqb, lt-ltb, le-ltb, le-leb, lt-leb}
 use Rattle.rules.specs.Numbers.{pick}
-use Rattle.rules.specs.Text.{Text, lf}
-use Rattle.rules.specs.Dump.{header, same, longest, Line, badLine, aRecord, questioned, goodHeader, badHeader, lineText, lineOf}
+use Rattle.rules.specs.Text.{Text, lf, same}
+use Rattle.rules.specs.Dump.{header, longestLine, Line, badLine, aRecord, questioned, goodHeader, badHeader, lineText, lineOf}
 use Rattle.rules.proofs.Promises.Records.{WrittenAs, records}
-use Rattle.rules.proofs.Promises.Reports.{same-self, same-is}
+use Rattle.rules.proofs.Promises.Reports.{same-is}
 use Rattle.dump.specs.declared.state.State.{State}
 use Rattle.text.specs.Laid.{Lays}
 use Rattle.text.proofs.LaidLaws.{laid-none}
-use Rattle.dump.specs.Stream.{held, closed, following, isBadHeader, nextLine, longer, isBetween, stateAfter, lineAfter, textAfter, textAtEnd}
+use Rattle.dump.specs.Stream.{held, lineSays, mostLines, following, isBadHeader, nextLine, longer, isBetween, stateAfter, lineAfter, textAfter, textAtEnd}
 
 -- a choice, where its test is known
 pub picked {ℓ} : {A : Type ℓ} {b c : Bool} (x y : A) → b ≡ c → pick c x y ≡ pick b x y
 picked x y e = sym (ap (λ (d : Bool). pick d x y) e)
 
-pub following-more : (k : ℕ) → k < 18446744073709551615 → k + 1 ≡ following k
-following-more k h = add-one k ∙ picked (suc k) k (lt-ltb k 18446744073709551615 h)
+pub following-more : (k : ℕ) → k < mostLines → k + 1 ≡ following k
+following-more k h = add-one k ∙ picked (suc k) k (lt-ltb k mostLines h)
 
-pub following-same : (k : ℕ) → 18446744073709551615 ≤ k → k ≡ following k
-following-same k h = picked (suc k) k (le-ltb k 18446744073709551615 h)
+pub following-same : (k : ℕ) → mostLines ≤ k → k ≡ following k
+following-same k h = picked (suc k) k (le-ltb k mostLines h)
 
 pub keep-out : (line : List ℕ) (p x : ℕ) → length line ≤ p → line ≡ set line p x
 keep-out line p x h = sym (set-out line p x h)
@@ -39,12 +39,12 @@ keep-out line p x h = sym (set-out line p x h)
 abbrev pub withLength : State → ℕ → State
 withLength s l = record { number = s .number; length = l; ended = false }
 
-pub longer-more : (s : State) → s .length ≤ longest → withLength s (s .length + 1) ≡ longer s
+pub longer-more : (s : State) → s .length ≤ longestLine → withLength s (s .length + 1) ≡ longer s
 longer-more s h =
-    ap (withLength s) (add-one (s .length) ∙ picked (suc (s .length)) (s .length) (le-leb (s .length) longest h))
+    ap (withLength s) (add-one (s .length) ∙ picked (suc (s .length)) (s .length) (le-leb (s .length) longestLine h))
 
-pub longer-same : (s : State) → longest < s .length → withLength s (s .length) ≡ longer s
-longer-same s h = ap (withLength s) (picked (suc (s .length)) (s .length) (lt-leb (s .length) longest h))
+pub longer-same : (s : State) → longestLine < s .length → withLength s (s .length) ≡ longer s
+longer-same s h = ap (withLength s) (picked (suc (s .length)) (s .length) (lt-leb (s .length) longestLine h))
 
 -- ---- the line so far
 
@@ -62,7 +62,7 @@ held-over l line h =
 
 -- ---- a line that is too long
 
-pub too-long-bad : (s : Text) → longest < length s → lineOf s ≡ badLine
+pub too-long-bad : (s : Text) → longestLine < length s → lineOf s ≡ badLine
 too-long-bad s h = go (lineOf s) (records .only-so s)
   where
     go : (l : Line) → WrittenAs s l → l ≡ badLine
@@ -73,13 +73,8 @@ is-false : (b : Bool) → (b ≡ true → ⊥) → b ≡ false
 is-false true h = absurd (h refl)
 is-false false h = refl
 
-pub too-long-header : (s : Text) → longest < length s → false ≡ same s header
+pub too-long-header : (s : Text) → longestLine < length s → false ≡ same s header
 too-long-header s h = sym (is-false (same s header) (λ k. let e : length s ≡ 8 = ap length (same-is s header k) in omega (arith, h, e)))
-
--- a test that holds exactly where two texts are equal
-pub same-by : (r : Bool) (s t : Text) → (r ≡ true → s ≡ t) × (s ≡ t → r ≡ true) → r ≡ same s t
-same-by true s t k = sym (ap (same s) (sym (k .0 refl)) ∙ same-self s)
-same-by false s t k = sym (is-false (same s t) (λ e. false≢true (k .1 (same-is s t e))))
 
 -- ---- the same text, by another description
 
@@ -92,32 +87,31 @@ lays-none out at t h e = lays-as out at at out [] t e (sym (add-zero at), h, sym
 
 -- ---- a whole line
 
-not-first : (k : ℕ) (s : Text) → k ≢ 1 → lineText k (lineOf s) ≡ closed k s
+not-first : (k : ℕ) (s : Text) → k ≢ 1 → lineText k (lineOf s) ≡ lineSays k s
 not-first k s d = picked (pick (same s header) goodHeader badHeader) (lineText k (lineOf s)) (ne-eqb k 1 d)
 
-pub closed-first : (k : ℕ) (s : Text) (x : Bool) → k ≡ 1 → x ≡ same s header → pick x goodHeader badHeader ≡ closed k s
+pub closed-first : (k : ℕ) (s : Text) (x : Bool) → k ≡ 1 → x ≡ same s header → pick x goodHeader badHeader ≡ lineSays k s
 closed-first k s x e q =
     ap (λ (b : Bool). pick b goodHeader badHeader) q
     ∙ picked (pick (same s header) goodHeader badHeader) (lineText k (lineOf s)) (eq-eqb k 1 e)
 
-module _ (l : ℕ) (line : List ℕ) (full : length line ≡ longest) where
-  pub header-over : longest < l → false ≡ same (held l line) header
+module _ (l : ℕ) (line : List ℕ) (full : length line ≡ longestLine) where
+  pub header-over : longestLine < l → false ≡ same (held l line) header
   header-over h = too-long-header (held l line) (omega (arith, held-over l line (omega arith)))
 
-  kept-part : l ≤ longest → take (l - 0) line ≡ held l line
+  kept-part : l ≤ longestLine → take (l - 0) line ≡ held l line
   kept-part h = ap (λ (k : ℕ). take k line) (sub-zero l) ∙ sym (held-kept l line (omega arith))
 
   pub header-kept :
-      l ≤ longest → (r : Bool) → (r ≡ true → take (l - 0) line ≡ header) × (take (l - 0) line ≡ header → r ≡ true)
-      → r ≡ same (held l line) header
-  header-kept h r k = same-by r (take (l - 0) line) header k ∙ ap (λ (s : Text). same s header) (kept-part h)
+      l ≤ longestLine → (r : Bool) → r ≡ same (take (l - 0) line) header → r ≡ same (held l line) header
+  header-kept h r k = k ∙ ap (λ (s : Text). same s header) (kept-part h)
 
-  pub closed-over : (k : ℕ) → k ≢ 1 → longest < l → questioned k ≡ closed k (held l line)
+  pub closed-over : (k : ℕ) → k ≢ 1 → longestLine < l → questioned k ≡ lineSays k (held l line)
   closed-over k d h =
       ap (lineText k) (sym (too-long-bad (held l line) (omega (arith, held-over l line (omega arith)))))
       ∙ not-first k (held l line) d
 
-  pub closed-kept : (k : ℕ) → k ≢ 1 → l ≤ longest → lineText k (lineOf (take (l - 0) line)) ≡ closed k (held l line)
+  pub closed-kept : (k : ℕ) → k ≢ 1 → l ≤ longestLine → lineText k (lineOf (take (l - 0) line)) ≡ lineSays k (held l line)
   closed-kept k d h = ap (λ (s : Text). lineText k (lineOf s)) (kept-part h) ∙ not-first k (held l line) d
 
 -- ---- after a byte
@@ -128,7 +122,7 @@ module _ (s : State) (line : List ℕ) (x : ℕ) where
   after-ended e = (
     picked s (pick (eqb x lf) (nextLine s line) (longer s)) e,
     picked line (pick (eqb x lf) line (set line (s .length) x)) e,
-    picked [] (pick (eqb x lf) (closed (s .number) (held (s .length) line)) []) e,
+    picked [] (pick (eqb x lf) (lineSays (s .number) (held (s .length) line)) []) e,
   )
 
   module _ (going : s .ended ≡ false) where
@@ -136,13 +130,13 @@ module _ (s : State) (line : List ℕ) (x : ℕ) where
         x ≡ lf
         → (nextLine s line ≡ stateAfter s line x)
         × (line ≡ lineAfter s line x)
-        × (closed (s .number) (held (s .length) line) ≡ textAfter s line x)
+        × (lineSays (s .number) (held (s .length) line) ≡ textAfter s line x)
     unfolding stateAfter lineAfter textAfter
     after-lf e = (
       sym (ap₂ (λ (b c : Bool). pick b s (pick c (nextLine s line) (longer s))) going (eq-eqb x lf e)),
       sym (ap₂ (λ (b c : Bool). pick b line (pick c line (set line (s .length) x))) going (eq-eqb x lf e)),
-      picked (closed (s .number) (held (s .length) line)) [] (eq-eqb x lf e)
-          ∙ picked [] (pick (eqb x lf) (closed (s .number) (held (s .length) line)) []) going,
+      picked (lineSays (s .number) (held (s .length) line)) [] (eq-eqb x lf e)
+          ∙ picked [] (pick (eqb x lf) (lineSays (s .number) (held (s .length) line)) []) going,
     )
 
     pub after-other :
@@ -152,8 +146,8 @@ module _ (s : State) (line : List ℕ) (x : ℕ) where
     after-other e = (
       sym (ap₂ (λ (b c : Bool). pick b s (pick c (nextLine s line) (longer s))) going (ne-eqb x lf e)),
       sym (ap₂ (λ (b c : Bool). pick b line (pick c line (set line (s .length) x))) going (ne-eqb x lf e)),
-      picked (closed (s .number) (held (s .length) line)) [] (ne-eqb x lf e)
-          ∙ picked [] (pick (eqb x lf) (closed (s .number) (held (s .length) line)) []) going,
+      picked (lineSays (s .number) (held (s .length) line)) [] (ne-eqb x lf e)
+          ∙ picked [] (pick (eqb x lf) (lineSays (s .number) (held (s .length) line)) []) going,
     )
 
 -- ---- at the end
@@ -161,20 +155,20 @@ module _ (s : State) (line : List ℕ) (x : ℕ) where
 module _ (s : State) (line : List ℕ) where
   pub end-ended : s .ended ≡ true → [] ≡ textAtEnd s line
   unfolding textAtEnd
-  end-ended e = picked [] (pick (isBetween s) [] (closed (s .number) (held (s .length) line))) e
+  end-ended e = picked [] (pick (isBetween s) [] (lineSays (s .number) (held (s .length) line))) e
 
   module _ (going : s .ended ≡ false) where
     pub end-none : isBetween s ≡ true → [] ≡ textAtEnd s line
     unfolding textAtEnd
     end-none e =
-        picked [] (closed (s .number) (held (s .length) line)) e
-        ∙ picked [] (pick (isBetween s) [] (closed (s .number) (held (s .length) line))) going
+        picked [] (lineSays (s .number) (held (s .length) line)) e
+        ∙ picked [] (pick (isBetween s) [] (lineSays (s .number) (held (s .length) line))) going
 
-    pub end-line : isBetween s ≡ false → closed (s .number) (held (s .length) line) ≡ textAtEnd s line
+    pub end-line : isBetween s ≡ false → lineSays (s .number) (held (s .length) line) ≡ textAtEnd s line
     unfolding textAtEnd
     end-line e =
-        picked [] (closed (s .number) (held (s .length) line)) e
-        ∙ picked [] (pick (isBetween s) [] (closed (s .number) (held (s .length) line))) going
+        picked [] (lineSays (s .number) (held (s .length) line)) e
+        ∙ picked [] (pick (isBetween s) [] (lineSays (s .number) (held (s .length) line))) going
 
   pub bad-header-not : s .number ≢ 1 → false ≡ isBadHeader s line
   bad-header-not d = ap (λ (b : Bool). b && not (same (held (s .length) line) header)) (sym (ne-eqb (s .number) 1 d))

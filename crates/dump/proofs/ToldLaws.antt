@@ -10,21 +10,25 @@ use Rattle.rules.specs.Bits.{frameOf}
 use Rattle.rules.specs.Passes as passes
 use Rattle.rules.specs.Passes.{decoded}
 use Rattle.rules.specs.Numbers.{Decoded, refused, ended, pick, first, outside, notLong, notAllowed, frameBytes, told, decodeRefusal, decodeSaid}
+use Rattle.rules.specs.Text.{Text}
 use Rattle.rules.specs.Dump.{recordText}
 use Rattle.frame.specs.declared.decode.Ending.{Ending}
 use Rattle.frame.specs.declared.decode.Report.{Report}
 use Rattle.frame.specs.Said.{reportOf}
 use Rattle.text.specs.Laid.{Lays}
-use Rattle.dump.specs.Told.{textFor, reportText}
+use Rattle.dump.specs.declared.report.Counts.{Counts}
+use Rattle.dump.specs.Told.{wordAndCounts, textFor, reportText}
 
--- one ending's line is the report's, where that ended so
+-- one ending's line is the report's, where that ended so and the counts are that ending's
 pub told-here :
-    (r : Report) (e : Ending) → r .ending ≡ e → (number : ℕ) (s : List ℕ) (at x : ℕ) (exit : List ℕ)
-    → Lays s at (textFor number e (r .passes) (r .flips) (r .rows) (r .columns)) x exit → Lays s at (reportText number r) x exit
-told-here r e q number s at x exit =
-    subst (λ (d : Ending). Lays s at (textFor number d (r .passes) (r .flips) (r .rows) (r .columns)) x exit) (sym q)
+    (r : Report) (e : Ending) → r .ending ≡ e → (number : ℕ) (word : Text) (k c : Counts) → k ≡ c
+    → textFor number e r ≡ wordAndCounts number word c → (s : List ℕ) (at x : ℕ) (exit : List ℕ)
+    → Lays s at (wordAndCounts number word k) x exit → Lays s at (reportText number r) x exit
+told-here r e q number word k c h t s at x exit =
+    subst (λ (u : Text). Lays s at u x exit)
+    (ap (wordAndCounts number word) h ∙ sym t ∙ ap (λ (d : Ending). textFor number d r) (sym q))
 
--- "number, ending, passes, flips, rows, columns", as the rules have it
+-- a record's line, as the rules have it
 pub report-said : (number : ℕ) (d : Decoded) → reportText number (reportOf d) ≡ recordText number d
 report-said number (refused k) = refl
 report-said number (ended passes.clean p f r c) = refl

@@ -1,4 +1,4 @@
--- The contracts of the calls that take a dump, each as one statement: the arguments, what the lent buffers held, what is
+-- RULES 8 and 9: the contracts of the calls that take a dump, each as one statement: the arguments, what the lent buffers held, what is
 -- returned, and what they hold then.
 use mathlib.Core.Path.{_≡_}
 use mathlib.Core.List.{List}

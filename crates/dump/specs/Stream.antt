@@ -1,12 +1,12 @@
--- A dump taken byte by byte: what is kept, and what is handed out.
+-- RULES 8 and 9: a dump taken byte by byte, what is kept of it and what is handed out.
 use mathlib.Core.Bool.{Bool, false, not, _&&_}
 use mathlib.Core.List.{List, [], _∷_, _++_}
 use Prim.Native.Nat.{ℕ, suc, _+_, _-_}
 use lib.Dec.{eqb, leb, ltb}
 use lib.ListN.{length, take, set, replicate}
 use Rattle.rules.specs.Numbers.{pick}
-use Rattle.rules.specs.Text.{Text, lf}
-use Rattle.rules.specs.Dump.{header, same, longest, goodHeader, badHeader, lineText, lineOf}
+use Rattle.rules.specs.Text.{Text, lf, same}
+use Rattle.rules.specs.Dump.{header, longestLine, goodHeader, badHeader, lineText, lineOf}
 use Rattle.dump.specs.declared.state.State.{State}
 use Rattle.dump.specs.Told.{lineRoom}
 
@@ -19,12 +19,15 @@ abbrev pub held : ℕ → List ℕ → Text
 held long line = take long line ++ replicate (long - length line) 0
 
 -- what line k gives once it is whole
-abbrev pub closed : ℕ → Text → Text
-closed k s = pick (eqb k 1) (pick (same s header) goodHeader badHeader) (lineText k (lineOf s))
+abbrev pub lineSays : ℕ → Text → Text
+lineSays k s = pick (eqb k 1) (pick (same s header) goodHeader badHeader) (lineText k (lineOf s))
 
--- the greatest line number of a machine word stays
+-- the next line's number; the greatest of a machine word stays
+abbrev pub mostLines : ℕ
+mostLines = 18446744073709551615
+
 abbrev pub following : ℕ → ℕ
-following k = pick (ltb k 18446744073709551615) (suc k) k
+following k = pick (ltb k mostLines) (suc k) k
 
 -- the line that just ended is the first, and is no header
 abbrev pub isBadHeader : State → List ℕ → Bool
@@ -39,7 +42,7 @@ nextLine s line = record {
 
 -- one more character; a length past the longest line says that it is too long, and stays
 abbrev pub longer : State → State
-longer s = record { number = s .number; length = pick (leb (s .length) longest) (suc (s .length)) (s .length); ended = false }
+longer s = record { number = s .number; length = pick (leb (s .length) longestLine) (suc (s .length)) (s .length); ended = false }
 
 -- ---- After the byte x: the state, the lent line buffer, and the text handed out
 
@@ -50,7 +53,7 @@ unfoldable pub lineAfter : State → List ℕ → ℕ → List ℕ
 lineAfter s line x = pick (s .ended) line (pick (eqb x lf) line (set line (s .length) x))
 
 unfoldable pub textAfter : State → List ℕ → ℕ → Text
-textAfter s line x = pick (s .ended) [] (pick (eqb x lf) (closed (s .number) (held (s .length) line)) [])
+textAfter s line x = pick (s .ended) [] (pick (eqb x lf) (lineSays (s .number) (held (s .length) line)) [])
 
 -- ---- At the end of the input: a line that lacks its LF, or the missing first one
 
@@ -60,7 +63,7 @@ isBetween s = eqb (s .length) 0 && not (eqb (s .number) 1)
 
 unfoldable pub textAtEnd : State → List ℕ → Text
 textAtEnd s line =
-    pick (s .ended) [] (pick (isBetween s) [] (closed (s .number) (held (s .length) line)))
+    pick (s .ended) [] (pick (isBetween s) [] (lineSays (s .number) (held (s .length) line)))
 
 -- ---- A piece
 

@@ -1,29 +1,53 @@
--- A record's line of the report, from the code's own answer.
+-- RULES 9: a record's line of the report, from the code's own answer.
 use mathlib.Core.List.{_∷_, []}
-use Prim.Native.Nat.{ℕ}
+use Prim.Native.Nat.{ℕ, _+_, _*_}
 use Rattle.rules.specs.Text.{Text, ascii, decimal}
 use Rattle.rules.specs.Dump.{reportLine}
 use Rattle.frame.specs.declared.decode.Ending.{Ending}
 use Rattle.frame.specs.declared.decode.Ending.the-variants.{Clean, Repaired, Stuck, Spent, Refused}
 use Rattle.frame.specs.declared.decode.Report.{Report}
+use Rattle.dump.specs.declared.report.Counts.{Counts}
 
--- the room that is kept for a line of the report; five numbers of 20 digits and the longest word take 114
+-- the digits of the greatest number of a machine word, and the letters of the longest word
+abbrev pub wordDigits : ℕ
+wordDigits = 20
+
+abbrev pub mostLetters : ℕ
+mostLetters = 8
+
+-- the room for four numbers, each with a tab or an LF after it
+abbrev pub countsRoom : ℕ
+countsRoom = 4 * (wordDigits + 1)
+
+-- the room that is kept for a line of the report; a number, a word and four numbers take 114
 abbrev pub lineRoom : ℕ
 lineRoom = 128
 
-abbrev pub fourCounts : ℕ → ℕ → ℕ → ℕ → Text
-fourCounts a b c d = reportLine (decimal a) (decimal b ∷ decimal c ∷ decimal d ∷ [])
+-- the numbers that close a record's line
+abbrev pub countsText : Counts → Text
+countsText c = reportLine (decimal (c .passes)) (decimal (c .flips) ∷ decimal (c .rows) ∷ decimal (c .columns) ∷ [])
 
-abbrev pub wordAndCounts : ℕ → Text → ℕ → ℕ → ℕ → ℕ → Text
-wordAndCounts number word a b c d =
-    reportLine (decimal number) (word ∷ decimal a ∷ decimal b ∷ decimal c ∷ decimal d ∷ [])
+abbrev pub wordAndCounts : ℕ → Text → Counts → Text
+wordAndCounts number word c =
+    reportLine (decimal number) (word ∷ decimal (c .passes) ∷ decimal (c .flips) ∷ decimal (c .rows) ∷ decimal (c .columns) ∷ [])
 
-abbrev pub textFor : ℕ → Ending → ℕ → ℕ → ℕ → ℕ → Text
-textFor number Clean p f r c = wordAndCounts number (ascii "clean") p f 0 0
-textFor number Repaired p f r c = wordAndCounts number (ascii "repaired") p f 0 0
-textFor number Stuck p f r c = wordAndCounts number (ascii "stuck") p f r c
-textFor number Spent p f r c = wordAndCounts number (ascii "spent") p f r c
-textFor number (Refused k) p f r c = wordAndCounts number (ascii "refused") k 0 0 0
+-- for clean and repaired, for stuck and spent, and for a refusal
+abbrev pub mendedCounts : Report → Counts
+mendedCounts r = record { passes = r .passes; flips = r .flips; rows = 0; columns = 0 }
+
+abbrev pub badCounts : Report → Counts
+badCounts r = record { passes = r .passes; flips = r .flips; rows = r .rows; columns = r .columns }
+
+abbrev pub refusedCounts : ℕ → Counts
+refusedCounts k = record { passes = k; flips = 0; rows = 0; columns = 0 }
+
+-- the line of a report that ended so
+abbrev pub textFor : ℕ → Ending → Report → Text
+textFor number Clean r = wordAndCounts number (ascii "clean") (mendedCounts r)
+textFor number Repaired r = wordAndCounts number (ascii "repaired") (mendedCounts r)
+textFor number Stuck r = wordAndCounts number (ascii "stuck") (badCounts r)
+textFor number Spent r = wordAndCounts number (ascii "spent") (badCounts r)
+textFor number (Refused k) r = wordAndCounts number (ascii "refused") (refusedCounts k)
 
 abbrev pub reportText : ℕ → Report → Text
-reportText number r = textFor number (r .ending) (r .passes) (r .flips) (r .rows) (r .columns)
+reportText number r = textFor number (r .ending) r

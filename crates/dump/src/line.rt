@@ -1,6 +1,7 @@
 // What a line gives in the report.
 use crate::report::put_questioned;
 use crate::report::put_report;
+use crate::sizes::MOST_BYTES;
 use frame::decode::Report;
 use frame::decode::decode;
 use text::hex::bytes_of;
@@ -12,13 +13,10 @@ ghost use Prim.Native.Nat.{_+_, _/_, _≤_};
 ghost use lib.ListN.{length};
 ghost use Rattle.rules.specs.Numbers.{decodeSaid};
 ghost use Rattle.rules.specs.Text.{isHex, hexBytes};
-ghost use Rattle.rules.specs.Dump.{longest, lineText, lineOf};
+ghost use Rattle.rules.specs.Dump.{longestLine, lineText, lineOf};
 ghost use Rattle.frame.specs.Said.{reportOf};
 ghost use Rattle.text.specs.Laid.{Lays};
 ghost use Rattle.dump.specs.Told.{lineRoom};
-
-// Half the longest line: the bytes of any frame that a line can hold.
-const MOST_BYTES: usize = 8207;
 
 // Lent buffers for the frame as received and as mended; the mended one is handed to nobody.
 fn decode_into(
@@ -38,7 +36,7 @@ fn decode_into(
 
 fn decode_digits(n: usize, allowance: usize, digits: &[u8]) -> Report
     requires { ⌜ isHex (now digits) ≡ true ⌝ }
-    requires { ⌜ length (now digits) ≤ longest ⌝ }
+    requires { ⌜ length (now digits) ≤ longestLine ⌝ }
     ensures { λ r. ⌜ r ≡ reportOf (decodeSaid n allowance (hexBytes (now (digits .entry))) (hexBytes (now (digits .entry)))) ⌝ }
 {
     let mut received = [0u8; MOST_BYTES];
@@ -49,7 +47,7 @@ fn decode_digits(n: usize, allowance: usize, digits: &[u8]) -> Report
 // A line after the first, whole and not too long.
 pub(crate) fn put_reported(out: &mut [u8], at: usize, number: usize, line: &[u8]) -> usize
     requires { ⌜ at + lineRoom ≤ length (now out) ⌝ }
-    requires { ⌜ length (now line) ≤ longest ⌝ }
+    requires { ⌜ length (now line) ≤ longestLine ⌝ }
     ensures { λ r. ⌜ Lays (now (out .entry)) at (lineText number (lineOf (now (line .entry)))) r (now (out .exit)) ⌝ }
 {
     let head = record_head(line);

@@ -5,11 +5,12 @@ use text::write::put;
 use text::write::put_count;
 use text::write::put_decimal;
 use text::write::put_word;
+ghost use mathlib.Core.Path.{_≡_};
 ghost use Prim.Native.Nat.{_+_, _≤_};
 ghost use lib.ListN.{length};
 ghost use Rattle.rules.specs.Dump.{questioned};
 ghost use Rattle.text.specs.Laid.{Lays};
-ghost use Rattle.dump.specs.Told.{lineRoom, fourCounts, wordAndCounts, reportText};
+ghost use Rattle.dump.specs.Told.{lineRoom, countsRoom, mostLetters, countsText, wordAndCounts, mendedCounts, badCounts, refusedCounts, reportText};
 
 pub(crate) fn put_questioned(out: &mut [u8], at: usize, number: usize) -> usize
     requires { ⌜ at + lineRoom ≤ length (now out) ⌝ }
@@ -20,50 +21,80 @@ pub(crate) fn put_questioned(out: &mut [u8], at: usize, number: usize) -> usize
     put(out, b, b"\n")
 }
 
-fn put_counts(out: &mut [u8], at: usize, a: usize, b: usize, c: usize, d: usize) -> usize
-    requires { ⌜ at + 85 ≤ length (now out) ⌝ }
-    ensures { λ r. ⌜ Lays (now (out .entry)) at (fourCounts a b c d) r (now (out .exit)) ⌝ }
-{
-    let e = put_decimal(out, at, a);
-    let f = put_count(out, e, b);
-    let g = put_count(out, f, c);
-    let h = put_count(out, g, d);
-    put(out, h, b"\n")
+// The numbers that close a record's line; a refusal has its own in the place of the passes.
+struct Counts {
+    passes: usize,
+    flips: usize,
+    rows: usize,
+    columns: usize,
 }
 
-fn put_line(
-    out: &mut [u8],
-    at: usize,
-    number: usize,
-    word: &[u8],
-    a: usize,
-    b: usize,
-    c: usize,
-    d: usize,
-) -> usize
+fn put_counts(out: &mut [u8], at: usize, counts: Counts) -> usize
+    requires { ⌜ at + countsRoom ≤ length (now out) ⌝ }
+    ensures { λ r. ⌜ Lays (now (out .entry)) at (countsText counts) r (now (out .exit)) ⌝ }
+{
+    let a = put_decimal(out, at, counts.passes);
+    let b = put_count(out, a, counts.flips);
+    let c = put_count(out, b, counts.rows);
+    let d = put_count(out, c, counts.columns);
+    put(out, d, b"\n")
+}
+
+fn put_line(out: &mut [u8], at: usize, number: usize, word: &[u8], counts: Counts) -> usize
     requires { ⌜ at + lineRoom ≤ length (now out) ⌝ }
-    requires { ⌜ length (now word) ≤ 8 ⌝ }
-    ensures { λ r. ⌜ Lays (now (out .entry)) at (wordAndCounts number (now (word .entry)) a b c d) r (now (out .exit)) ⌝ }
+    requires { ⌜ length (now word) ≤ mostLetters ⌝ }
+    ensures { λ r. ⌜ Lays (now (out .entry)) at (wordAndCounts number (now (word .entry)) counts) r (now (out .exit)) ⌝ }
 {
-    let e = put_decimal(out, at, number);
-    let f = put_word(out, e, word);
-    let g = put(out, f, b"\t");
-    put_counts(out, g, a, b, c, d)
+    let a = put_decimal(out, at, number);
+    let b = put_word(out, a, word);
+    let c = put(out, b, b"\t");
+    put_counts(out, c, counts)
 }
 
-// Rows and columns stand for stuck and spent alone; a refusal has its number and three zeros.
+// Rows and columns stand for stuck and spent alone.
+fn mended_counts(report: Report) -> Counts
+    ensures { λ r. ⌜ r ≡ mendedCounts report ⌝ }
+{
+    Counts {
+        passes: report.passes,
+        flips: report.flips,
+        rows: 0,
+        columns: 0,
+    }
+}
+
+fn bad_counts(report: Report) -> Counts
+    ensures { λ r. ⌜ r ≡ badCounts report ⌝ }
+{
+    Counts {
+        passes: report.passes,
+        flips: report.flips,
+        rows: report.rows,
+        columns: report.columns,
+    }
+}
+
+fn refused_counts(number: u32) -> Counts
+    ensures { λ r. ⌜ r ≡ refusedCounts number ⌝ }
+{
+    Counts {
+        passes: number as usize,
+        flips: 0,
+        rows: 0,
+        columns: 0,
+    }
+}
+
 pub(crate) fn put_report(out: &mut [u8], at: usize, number: usize, report: Report) -> usize
     requires { ⌜ at + lineRoom ≤ length (now out) ⌝ }
     ensures { λ r. ⌜ Lays (now (out .entry)) at (reportText number report) r (now (out .exit)) ⌝ }
 {
     let ending = report.ending;
-    let p = report.passes;
-    let f = report.flips;
     match ending {
-        Ending::Clean => put_line(out, at, number, b"clean", p, f, 0, 0),
-        Ending::Repaired => put_line(out, at, number, b"repaired", p, f, 0, 0),
-        Ending::Stuck => put_line(out, at, number, b"stuck", p, f, report.rows, report.columns),
-        Ending::Spent => put_line(out, at, number, b"spent", p, f, report.rows, report.columns),
-        Ending::Refused(k) => put_line(out, at, number, b"refused", k as usize, 0, 0, 0),
+        Ending::Clean => put_line(out, at, number, b"clean", mended_counts(report)),
+        Ending::Repaired => put_line(out, at, number, b"repaired", mended_counts(report)),
+        Ending::Stuck => put_line(out, at, number, b"stuck", bad_counts(report)),
+        Ending::Spent => put_line(out, at, number, b"spent", bad_counts(report)),
+        Ending::Refused(k) => put_line(out, at, number, b"refused", refused_counts(k)),
     }
 }

@@ -1,22 +1,20 @@
 // A dump taken byte by byte, or in pieces of any size.
 use crate::line::put_reported;
 use crate::report::put_questioned;
+use crate::sizes::LONGEST;
+use crate::sizes::ROOM;
+use text::compare::same;
 use text::write::put;
 ghost use mathlib.Core.Path.{_≡_};
 ghost use Prim.Native.Nat.{_+_, _≤_};
 ghost use lib.ListN.{length, set};
 ghost use Rattle.rules.specs.Numbers.{pick};
-ghost use Rattle.rules.specs.Dump.{header, same, longest, goodHeader, badHeader};
+ghost use Rattle.rules.specs.Text.{same};
+ghost use Rattle.rules.specs.Dump.{header, longestLine, goodHeader, badHeader};
 ghost use Rattle.text.specs.Laid.{Lays};
 ghost use Rattle.dump.specs.Told.{lineRoom};
-ghost use Rattle.dump.specs.Stream.{atStart, held, closed, following, isBadHeader, nextLine, longer, isBetween};
+ghost use Rattle.dump.specs.Stream.{atStart, held, lineSays, following, isBadHeader, nextLine, longer, isBetween};
 ghost use Rattle.dump.specs.Calls.{TakesByte, TakesPiece, Finishes};
-
-// The most characters of a line, its LF not counted.
-pub const LONGEST: usize = 16414;
-
-// The room for one line of the report.
-pub const ROOM: usize = 128;
 
 // The number of the line being read, its characters so far (one more than the most says too long), and whether the header was
 // bad: then nothing more is reported.
@@ -59,13 +57,13 @@ fn following_number(number: usize) -> usize
 }
 
 fn is_header(long: usize, line: &[u8]) -> bool
-    requires { ⌜ length (now line) ≡ longest ⌝ }
+    requires { ⌜ length (now line) ≡ longestLine ⌝ }
     ensures { λ r. ⌜ r ≡ same (held long (now (line .entry))) header ⌝ }
 {
     if long > LONGEST {
         return false;
     }
-    check::same(&line[0..long], b"frames\t1")
+    same(&line[0..long], b"frames\t1")
 }
 
 // The report's first line.
@@ -82,8 +80,8 @@ fn put_header(out: &mut [u8], at: usize, good: bool) -> usize
 // What the line gives, now that it is whole.
 fn put_closed(out: &mut [u8], at: usize, state: State, line: &[u8]) -> usize
     requires { ⌜ at + lineRoom ≤ length (now out) ⌝ }
-    requires { ⌜ length (now line) ≡ longest ⌝ }
-    ensures { λ r. ⌜ Lays (now (out .entry)) at (closed (state .number) (held (state .length) (now (line .entry)))) r (now (out .exit)) ⌝ }
+    requires { ⌜ length (now line) ≡ longestLine ⌝ }
+    ensures { λ r. ⌜ Lays (now (out .entry)) at (lineSays (state .number) (held (state .length) (now (line .entry)))) r (now (out .exit)) ⌝ }
 {
     let number = state.number;
     let length = state.length;
@@ -97,7 +95,7 @@ fn put_closed(out: &mut [u8], at: usize, state: State, line: &[u8]) -> usize
 }
 
 fn is_bad_header(state: State, line: &[u8]) -> bool
-    requires { ⌜ length (now line) ≡ longest ⌝ }
+    requires { ⌜ length (now line) ≡ longestLine ⌝ }
     ensures { λ r. ⌜ r ≡ isBadHeader state (now (line .entry)) ⌝ }
 {
     if state.number != 1 {
@@ -107,7 +105,7 @@ fn is_bad_header(state: State, line: &[u8]) -> bool
 }
 
 fn next_line(state: State, line: &[u8]) -> State
-    requires { ⌜ length (now line) ≡ longest ⌝ }
+    requires { ⌜ length (now line) ≡ longestLine ⌝ }
     ensures { λ r. ⌜ r ≡ nextLine state (now (line .entry)) ⌝ }
 {
     let ended = is_bad_header(state, line);
@@ -148,7 +146,7 @@ fn keep(line: &mut [u8], place: usize, byte: u8)
 
 fn step_at(state: State, byte: u8, line: &mut [u8], out: &mut [u8], at: usize) -> Step
     requires { ⌜ at + lineRoom ≤ length (now out) ⌝ }
-    requires { ⌜ length (now line) ≡ longest ⌝ }
+    requires { ⌜ length (now line) ≡ longestLine ⌝ }
     ensures { λ r. ⌜ TakesByte state byte (now (line .entry)) (now (out .entry)) at r (now (line .exit)) (now (out .exit)) ⌝ }
 {
     if state.ended {
@@ -175,7 +173,7 @@ pub fn take_byte(state: State, byte: u8, line: &mut [u8; LONGEST], out: &mut [u8
 }
 
 fn take_bytes(state: State, piece: &[u8], line: &mut [u8], out: &mut [u8]) -> Taken
-    requires { ⌜ length (now line) ≡ longest ⌝ }
+    requires { ⌜ length (now line) ≡ longestLine ⌝ }
     ensures { λ r. ⌜ TakesPiece state (now (piece .entry)) (now (line .entry)) (now (out .entry)) r (now (line .exit)) (now (out .exit)) ⌝ }
 {
     let mut current = state;
@@ -201,7 +199,7 @@ fn take_bytes(state: State, piece: &[u8], line: &mut [u8], out: &mut [u8]) -> Ta
     }
 }
 
-// As many bytes of the piece as `out` has room for, 128 bytes a line of the report. The next call takes the rest.
+// As many bytes of the piece as `out` has room for, `ROOM` a line of the report. The next call takes the rest.
 pub fn take_piece(state: State, piece: &[u8], line: &mut [u8; LONGEST], out: &mut [u8]) -> Taken
     ensures { λ r. ⌜ TakesPiece state (now (piece .entry)) (now (line .entry)) (now (out .entry)) r (now (line .exit)) (now (out .exit)) ⌝ }
 {

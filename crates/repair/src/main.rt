@@ -1,6 +1,6 @@
 // The desktop program: a dump from standard input, its report to standard output.
-use dump::state::LONGEST;
-use dump::state::ROOM;
+use dump::sizes::LONGEST;
+use dump::sizes::ROOM;
 use dump::state::State;
 use dump::state::finish;
 use dump::state::start;
@@ -10,6 +10,12 @@ use libc::STDIN_FILENO;
 use libc::STDOUT_FILENO;
 ghost use Prim.Native.Nat.{_≤_};
 ghost use lib.ListN.{length};
+ghost use Rattle.dump.specs.Told.{lineRoom};
+
+// The bytes of a read, and of the text that is handed out at a time.
+const PIECE: usize = 8192;
+
+const OUT: usize = 4096;
 
 // The state so far, whether there may be more to read, and whether all of the report so far could be written.
 struct Next {
@@ -20,7 +26,7 @@ struct Next {
 
 // Takes a whole piece, in as many calls as the report's buffer asks for, and writes what each call hands out.
 fn report_piece(state: State, piece: &[u8], line: &mut [u8; LONGEST], out: &mut [u8]) -> Next
-    requires { ⌜ 128 ≤ length (now out) ⌝ }
+    requires { ⌜ lineRoom ≤ length (now out) ⌝ }
 {
     let mut current = state;
     let mut from = 0;
@@ -46,9 +52,9 @@ fn report_piece(state: State, piece: &[u8], line: &mut [u8; LONGEST], out: &mut 
 
 // Reads once. A read that fails ends the input.
 fn report_some(state: State, line: &mut [u8; LONGEST], out: &mut [u8]) -> Next
-    requires { ⌜ 128 ≤ length (now out) ⌝ }
+    requires { ⌜ lineRoom ≤ length (now out) ⌝ }
 {
-    let mut piece = [0u8; 8192];
+    let mut piece = [0u8; PIECE];
     let got = libc::read(STDIN_FILENO, &mut piece);
     if got < 0 {
         io::write_all(
@@ -69,7 +75,7 @@ fn report_some(state: State, line: &mut [u8; LONGEST], out: &mut [u8]) -> Next
 
 // A proved loop has to end: it counts down from a number of reads that no run uses up.
 fn report_all(line: &mut [u8; LONGEST], out: &mut [u8]) -> Next
-    requires { ⌜ 128 ≤ length (now out) ⌝ }
+    requires { ⌜ lineRoom ≤ length (now out) ⌝ }
 {
     let mut current = start();
     let mut turns = u64::MAX;
@@ -90,7 +96,7 @@ fn report_all(line: &mut [u8; LONGEST], out: &mut [u8]) -> Next
 
 fn main() {
     let mut line = [0u8; LONGEST];
-    let mut out = [0u8; 4096];
+    let mut out = [0u8; OUT];
     let mut last = [0u8; ROOM];
     let end = report_all(&mut line, &mut out);
     let mut written = end.written;

@@ -1,55 +1,54 @@
--- Document 01, "The dump and its report": from the whole input to the whole report.
-use mathlib.Core.Bool.{Bool, true, false, _&&_}
+-- RULES 8 and 9: from the whole dump to the whole report.
+use mathlib.Core.Bool.{Bool, _&&_}
 use mathlib.Core.List.{List, [], _∷_, _++_, map}
-use Prim.Native.Nat.{ℕ, suc}
+use Prim.Native.Nat.{ℕ, suc, _+_, _*_}
 use lib.Dec.{eqb, leb}
 use lib.ListN.{length, getD}
 use Rattle.rules.specs.Passes.{clean, repaired, stuck, spent}
-use Rattle.rules.specs.Numbers.{pick, Decoded, refused, ended, Figures, figuresOf, decodeSaid}
-use Rattle.rules.specs.Text.{Text, ascii, lf, tabulator, lines, fields, isDecimal, value, decimal, isHex, hexBytes}
+use Rattle.rules.specs.Numbers.{pick, frameBytes, Decoded, refused, ended, Figures, figuresOf, decodeSaid}
+use Rattle.rules.specs.Text.{Text, ascii, lf, tabulator, same, lines, fields, mostDigits, isDecimal, decimalValue, decimal, isHex, hexBytes}
 
 -- ---- The dump
 
--- "`frames`, a tab, `1`"
+-- the first line of every dump
 abbrev pub header : Text
 header = ascii "frames\t1"
 
-unfoldable pub same : Text → Text → Bool
-same [] [] = true
-same [] (y ∷ t) = false
-same (x ∷ s) [] = false
-same (x ∷ s) (y ∷ t) = eqb x y && same s t
+-- the bytes of the greatest frame
+abbrev pub greatestFrame : ℕ
+greatestFrame = frameBytes 256
 
--- "A line longer than 16,414 characters, its LF not counted"
-abbrev pub longest : ℕ
-longest = 16414
+-- the characters of the longest line, without its LF: three numbers, each with a tab after it, and the greatest frame in hex
+abbrev pub longestLine : ℕ
+longestLine = 3 * (mostDigits + 1) + 2 * greatestFrame
 
 pub data Line : Type 0 where
   badLine : Line
-  -- "record number, n, allowance", "and the frame"
+  -- number, n, allowance and frame
   aRecord : ℕ → ℕ → ℕ → List ℕ → Line
 
-abbrev pub field : Text → ℕ → Text
-field s i = getD (fields s) i []
+-- field i, counted from 0
+abbrev pub fieldAt : Text → ℕ → Text
+fieldAt s i = getD (fields s) i []
 
--- the form of a good line
+-- the form of a record: three numbers and a frame, in a line that is not too long
 abbrev pub isRecord : Text → Bool
 isRecord s =
-    leb (length s) longest
+    leb (length s) longestLine
     && eqb (length (fields s)) 4
-    && isDecimal (field s 0)
-    && isDecimal (field s 1)
-    && isDecimal (field s 2)
-    && isHex (field s 3)
+    && isDecimal (fieldAt s 0)
+    && isDecimal (fieldAt s 1)
+    && isDecimal (fieldAt s 2)
+    && isHex (fieldAt s 3)
 
--- "or of any other form [..] is bad"
+-- what a line says; of any other form, it is bad
 unfoldable pub lineOf : Text → Line
 lineOf s =
-    pick (isRecord s) (aRecord (value (field s 0)) (value (field s 1)) (value (field s 2)) (hexBytes (field s 3))) badLine
+    pick (isRecord s) (aRecord (decimalValue (fieldAt s 0)) (decimalValue (fieldAt s 1)) (decimalValue (fieldAt s 2)) (hexBytes (fieldAt s 3))) badLine
 
 -- ---- The report
 
--- "Every report line ends in LF."
+-- a line of the report: fields with a tab between two, and an LF after the last
 abbrev pub afterTabs : List Text → Text
 afterTabs [] = lf ∷ []
 afterTabs (f ∷ fs) = tabulator ∷ (f ++ afterTabs fs)
@@ -57,19 +56,19 @@ afterTabs (f ∷ fs) = tabulator ∷ (f ++ afterTabs fs)
 abbrev pub reportLine : Text → List Text → Text
 reportLine f fs = f ++ afterTabs fs
 
--- "`repair`, tab, `1`"
+-- the report's first line
 abbrev pub goodHeader : Text
 goodHeader = reportLine (ascii "repair") (ascii "1" ∷ [])
 
--- "the whole report is `bad header`"
+-- the one line of a report on something that is no dump
 abbrev pub badHeader : Text
 badHeader = reportLine (ascii "bad header") []
 
--- "A bad line gives `?`, tab, its line number"
+-- what the bad line k gives
 abbrev pub questioned : ℕ → Text
 questioned k = reportLine (ascii "?") (decimal k ∷ [])
 
--- "ending (`clean`, `repaired`, `stuck` or `spent`)"; "Numbers 1, 2 and 4 give `refused`"
+-- a record's second field: how its decoding ended, or that the frame was refused
 abbrev pub endingText : Decoded → Text
 endingText (refused r) = ascii "refused"
 endingText (ended clean p f r c) = ascii "clean"
@@ -77,18 +76,18 @@ endingText (ended repaired p f r c) = ascii "repaired"
 endingText (ended stuck p f r c) = ascii "stuck"
 endingText (ended spent p f r c) = ascii "spent"
 
--- "passes, flips, rows, columns"
+-- passes, flips, rows, columns
 abbrev pub counts : Figures → List ℕ
 counts v = v .passes ∷ v .flips ∷ v .rows ∷ v .columns ∷ []
 
--- refused: "the number, and three zeros"
-abbrev pub reported : Decoded → List ℕ
-reported (refused r) = r ∷ 0 ∷ 0 ∷ 0 ∷ []
-reported (ended e p f r c) = counts (figuresOf (ended e p f r c))
+-- a record's last four fields; a refusal has its number in the place of the passes
+abbrev pub reportedCounts : Decoded → List ℕ
+reportedCounts (refused r) = r ∷ 0 ∷ 0 ∷ 0 ∷ []
+reportedCounts (ended e p f r c) = counts (figuresOf (ended e p f r c))
 
--- "one line a record: number, ending, passes, flips, rows, columns"
+-- what a record gives, from what decoding said
 abbrev pub recordText : ℕ → Decoded → Text
-recordText number d = reportLine (decimal number) (endingText d ∷ map decimal (reported d))
+recordText number d = reportLine (decimal number) (endingText d ∷ map decimal (reportedCounts d))
 
 -- what line k gives; the mended frame is handed to nobody, and its buffer is as long as the frame
 abbrev pub lineText : ℕ → Line → Text
@@ -100,7 +99,7 @@ unfoldable pub reportFrom : ℕ → List Text → Text
 reportFrom k [] = []
 reportFrom k (s ∷ later) = lineText k (lineOf s) ++ reportFrom (suc k) later
 
--- "With a bad or missing first line the whole report is `bad header`."
+-- nothing is reported where the first line is not the header, or is missing
 abbrev pub underHeader : List Text → Text
 underHeader [] = badHeader
 underHeader (s ∷ later) = pick (same s header) (goodHeader ++ reportFrom 2 later) badHeader

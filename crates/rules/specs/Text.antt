@@ -1,4 +1,4 @@
--- Document 01, "The dump and its report": lines, fields, digits. A text is the list of its bytes.
+-- RULES 8: lines, fields, digits. A text is the list of its bytes.
 use mathlib.Core.Bool.{Bool, true, false, not, _&&_, _||_}
 use mathlib.Core.List.{List, [], _∷_, _++_}
 use Prim.Native.Nat.{ℕ, zero, suc, _+_, _*_, _-_, _/_, _%_}
@@ -11,17 +11,28 @@ use Rattle.algebra.specs.Tables.{tab}
 abbrev pub Text : Type 0
 Text = List ℕ
 
--- document 01's words as texts
+-- a quoted text, and the first character of one
 abbrev pub ascii : String → Text
 ascii none = []
 ascii (c then s) = code c ∷ ascii s
 
--- the byte that ends a line, and the byte between two fields
+abbrev pub sign : String → ℕ
+sign none = 0
+sign (c then s) = code c
+
+-- what ends a line, and what stands between two fields
 abbrev pub lf : ℕ
-lf = 10
+lf = sign "\n"
 
 abbrev pub tabulator : ℕ
-tabulator = 9
+tabulator = sign "\t"
+
+-- the same characters, and as many
+unfoldable pub same : Text → Text → Bool
+same [] [] = true
+same [] (y ∷ t) = false
+same (x ∷ s) [] = false
+same (x ∷ s) (y ∷ t) = eqb x y && same s t
 
 -- ---- Lines and fields
 
@@ -35,46 +46,52 @@ abbrev pub parted : Bool → ℕ → List Text → List Text
 parted true x parts = [] ∷ parts
 parted false x parts = onto x parts
 
--- "A line ends in LF; the last may lack it, and with nothing after the last LF there is no further line."
+-- an LF closes a line; what follows the last LF is one more, if it is anything
 unfoldable pub lines : Text → List Text
 lines [] = []
 lines (x ∷ s) = parted (eqb x lf) x (lines s)
 
--- "fields parted by tabs"
+-- a tab stands between two fields, so there is always one field more than tabs
 unfoldable pub fields : Text → List Text
 fields [] = [] ∷ []
 fields (x ∷ s) = parted (eqb x tabulator) x (fields s)
 
 -- ---- Digits
 
+-- p holds of each character
 unfoldable pub every : (ℕ → Bool) → Text → Bool
 every p [] = true
 every p (x ∷ s) = p x && every p s
 
 -- `0` to `9`
 abbrev pub isDigit : ℕ → Bool
-isDigit x = leb 48 x && leb x 57
+isDigit x = leb (sign "0") x && leb x (sign "9")
 
 abbrev pub digitValue : ℕ → ℕ
-digitValue x = x - 48
+digitValue x = x - sign "0"
 
--- "decimal, 1 to 9 digits, no leading zero except 0 itself"
+-- the digits that a number has room for
+abbrev pub mostDigits : ℕ
+mostDigits = 9
+
+-- one digit or more, no more than there is room for; a first digit 0 is the only one
 unfoldable pub isDecimal : Text → Bool
 isDecimal s =
-    leb 1 (length s) && leb (length s) 9 && every isDigit s && (eqb (length s) 1 || not (eqb (digitValue (getD s 0 0)) 0))
+    leb 1 (length s) && leb (length s) mostDigits && every isDigit s && (eqb (length s) 1 || not (eqb (digitValue (getD s 0 0)) 0))
 
 -- the value of v followed by the digits of s
 unfoldable pub valueFrom : ℕ → Text → ℕ
 valueFrom v [] = v
 valueFrom v (x ∷ s) = valueFrom (v * 10 + digitValue x) s
 
-abbrev pub value : Text → ℕ
-value s = valueFrom 0 s
+abbrev pub decimalValue : Text → ℕ
+decimalValue s = valueFrom 0 s
 
 -- the digits of x, given that it has at most as many as the first argument says
 unfoldable pub digits : ℕ → ℕ → Text
 digits zero x = []
-digits (suc most) x = elim (ltb x 10) [ true ↦ (48 + x) ∷ [] | false ↦ digits most (x / 10) ++ ((48 + x % 10) ∷ []) ]
+digits (suc most) x =
+    elim (ltb x 10) [ true ↦ (sign "0" + x) ∷ [] | false ↦ digits most (x / 10) ++ ((sign "0" + x % 10) ∷ []) ]
 
 -- x in decimal: x + 1 digits are always enough
 abbrev pub decimal : ℕ → Text
@@ -84,17 +101,17 @@ decimal x = digits (suc x) x
 
 -- `0` to `9` and `A` to `F`
 abbrev pub isHexDigit : ℕ → Bool
-isHexDigit x = isDigit x || (leb 65 x && leb x 70)
+isHexDigit x = isDigit x || (leb (sign "A") x && leb x (sign "F"))
 
--- the value of a letter, `A` for 10, or of a figure
+-- the value of a letter, 10 for `A`, or of a figure
 abbrev pub letterOr : Bool → ℕ → ℕ
-letterOr true x = x - 55
+letterOr true x = x - sign "A" + 10
 letterOr false x = digitValue x
 
 abbrev pub hexValue : ℕ → ℕ
-hexValue x = letterOr (leb 65 x) x
+hexValue x = letterOr (leb (sign "A") x) x
 
--- "upper-case hex, an even number of digits, possibly none"
+-- digits in upper case, two for each byte: none at all will do
 unfoldable pub isHex : Text → Bool
 isHex s = eqb (length s % 2) 0 && every isHexDigit s
 

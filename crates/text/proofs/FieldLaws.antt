@@ -12,9 +12,9 @@ use lib.Seq.{take-length, drop-drop}
 use borrow.Author.Tests.{ltb-true, ltb-false, lt-ltb, le-ltb}
 use Rattle.bytes.specs.Bytes.{indexOf, indexAfter, slice}
 use Rattle.rules.specs.Numbers.{pick}
-use Rattle.rules.specs.Text.{Text, tabulator, onto, parted, fields, isDecimal, value}
+use Rattle.rules.specs.Text.{Text, tabulator, onto, parted, fields, isDecimal, decimalValue}
 use Rattle.rules.proofs.Laws.OneOfLaws.{and-both}
-use Rattle.text.specs.Read.{numberOf, closedNumber, badField, fieldOf, badHead, headOf}
+use Rattle.text.specs.Read.{decimalOf, closedNumber, badField, fieldOf, badHead, headOf}
 use Rattle.text.specs.declared.number.Decimal.{Decimal}
 use Rattle.text.specs.declared.number.Decimal.the-variants.{Value, Bad}
 use Rattle.text.specs.declared.record.Field.{Field}
@@ -59,7 +59,7 @@ module _ (s : Text) (from : ℕ) where
   the-field = take tab-at (drop from s)
 
   abbrev goodField : Field
-  goodField = record { «is_good» = true; value = value the-field; after = from + tab-at + 1 }
+  goodField = record { «is_good» = true; value = decimalValue the-field; after = from + tab-at + 1 }
 
   field-closed : closedNumber s from ≡ true → fieldOf s from ≡ goodField
   unfolding fieldOf
@@ -83,11 +83,11 @@ module _ (s : Text) (from : ℕ) where
         le-ltb tab-at (length (drop from s)) (omega (arith, place, length-drop from s)) in
         sym (field-broken (ap (λ (b : Bool). b && isDecimal the-field) beyond))
 
-    module _ (d : Decimal) (read : d ≡ numberOf (take (end - from) (drop from s))) (within : end < length s) where
-      same : numberOf the-field ≡ d
+    module _ (d : Decimal) (read : d ≡ decimalOf (take (end - from) (drop from s))) (within : end < length s) where
+      same : decimalOf the-field ≡ d
       same =
           let e : tab-at ≡ end - from = omega (arith, place) in
-          ap (λ (k : ℕ). numberOf (take k (drop from s))) e ∙ sym read
+          ap (λ (k : ℕ). decimalOf (take k (drop from s))) e ∙ sym read
 
       tab-within : ltb tab-at (length (drop from s)) ≡ true
       tab-within = lt-ltb tab-at (length (drop from s)) (omega (arith, place, length-drop from s))
@@ -110,7 +110,7 @@ module _ (s : Text) (from : ℕ) where
     pub first : Text
     pub cut : fields (drop from s) ≡ first ∷ fields (drop (fieldOf s from .after) s)
     pub number : isDecimal first ≡ true
-    pub says : value first ≡ fieldOf s from .value
+    pub says : decimalValue first ≡ fieldOf s from .value
 
   -- no tab, or no number
   abbrev pub Broken : Type 0
@@ -167,17 +167,17 @@ module _ (s : Text) (from : ℕ) where
 abbrev pub goodHead : Field → Field → Field → Head
 goodHead a b c = record { «is_good» = true; number = a .value; n = b .value; allowance = c .value; frame = c .after }
 
-abbrev pub joined : Field → Field → Field → Head
-joined a b c =
+abbrev pub headFrom : Field → Field → Field → Head
+headFrom a b c =
     pick (a .«is_good» && b .«is_good» && c .«is_good») (goodHead a b c) badHead
 
 module _ (s : Text) {a b c : Field} (ea : a ≡ fieldOf s 0) (eb : b ≡ fieldOf s (a .after)) (ec : c ≡ fieldOf s (b .after)) where
-  pub head-joined : headOf s ≡ joined a b c
+  pub head-joined : headOf s ≡ headFrom a b c
   unfolding headOf
   head-joined =
-      ap (λ (x : Field). joined x (fieldOf s (x .after)) (fieldOf s (fieldOf s (x .after) .after))) (sym ea)
-      ∙ ap (λ (y : Field). joined a y (fieldOf s (y .after))) (sym eb)
-      ∙ ap (joined a b) (sym ec)
+      ap (λ (x : Field). headFrom x (fieldOf s (x .after)) (fieldOf s (fieldOf s (x .after) .after))) (sym ea)
+      ∙ ap (λ (y : Field). headFrom a y (fieldOf s (y .after))) (sym eb)
+      ∙ ap (headFrom a b) (sym ec)
 
   head-of : {u : Bool} → (a .«is_good» && b .«is_good» && c .«is_good») ≡ u
       → pick u (goodHead a b c) badHead ≡ headOf s

@@ -1,6 +1,8 @@
 -- Texts laid into a buffer
 pub mod LaidLaws
 pub mod DecimalLaws
+-- Texts compared
+pub mod SameLaws
 -- A line's fields
 pub mod ReadLaws
 pub mod FieldLaws

@@ -14,46 +14,46 @@ use lib.Seq.{drop-cons, take-at, length-take-le}
 use borrow.Author.Tests.{leb-true, leb-false, le-leb, lt-leb, eqb-false, eq-eqb, ne-eqb}
 use Rattle.algebra.proofs.TableLaws.{tab-length, tab-at}
 use Rattle.rules.specs.Numbers.{pick}
-use Rattle.rules.specs.Text.{Text, every, isDigit, digitValue, isDecimal, valueFrom, value, isHexDigit, hexValue, letterOr, isHex, hexBytes}
+use Rattle.rules.specs.Text.{Text, every, isDigit, digitValue, isDecimal, valueFrom, decimalValue, isHexDigit, hexValue, letterOr, isHex, hexBytes}
 use Rattle.rules.proofs.Laws.OneOfLaws.{and-both}
 use Rattle.text.specs.Laid.{laid}
-use Rattle.text.specs.Read.{numberOf, digitsOf}
+use Rattle.text.specs.Read.{decimalOf, digitsOf}
 use Rattle.text.specs.declared.number.Decimal.{Decimal}
 use Rattle.text.specs.declared.number.Decimal.the-variants.{Value, Bad}
 use Rattle.text.proofs.LaidLaws.{Laying, laying-none, laying-next}
 
 -- ---- every entry of a text, from a place on
 
-pub record Passing (p : ℕ → Bool) (s : Text) (end i : ℕ) : Type 0 where
+pub record Testing (p : ℕ → Bool) (s : Text) (end i : ℕ) : Type 0 where
   pub ends : end ≡ length s
   pub within : i ≤ end
   pub rest : every p (drop i s) ≡ every p s
 
-pub passing-none : {p : ℕ → Bool} {s : Text} {end : ℕ} → end ≡ length s → Passing p s end 0
-passing-none e = record { ends = e; within = omega arith; rest = refl }
+pub testing-none : {p : ℕ → Bool} {s : Text} {end : ℕ} → end ≡ length s → Testing p s end 0
+testing-none e = record { ends = e; within = omega arith; rest = refl }
 
 every-one : (p : ℕ → Bool) (s : Text) (i : ℕ) → i < length s → every p (drop i s) ≡ (p (getD s i 0) && every p (drop (i + 1) s))
 unfolding every
 every-one p s i h = ap (every p) (drop-cons s i 0 h) ∙ ap (λ (k : ℕ). p (getD s i 0) && every p (drop k s)) (sym (add-one i))
 
-module _ {p : ℕ → Bool} {s : Text} {end i : ℕ} (g : Passing p s end i) where
-  pub passing-next : i < end → p (getD s i 0) ≡ true → Passing p s end (i + 1)
-  passing-next h q = record {
+module _ {p : ℕ → Bool} {s : Text} {end i : ℕ} (g : Testing p s end i) where
+  pub testing-next : i < end → p (getD s i 0) ≡ true → Testing p s end (i + 1)
+  testing-next h q = record {
     ends = g .ends;
     within = omega arith;
     rest =
         ap (λ (b : Bool). b && every p (drop (i + 1) s)) (sym q) ∙ sym (every-one p s i (omega (arith, g .ends))) ∙ g .rest;
   }
 
-  pub passing-fails : i < end → p (getD s i 0) ≡ false → every p s ≡ false
-  passing-fails h q =
+  pub testing-fails : i < end → p (getD s i 0) ≡ false → every p s ≡ false
+  testing-fails h q =
       sym (g .rest)
       ∙ every-one p s i (omega (arith, g .ends))
       ∙ ap (λ (b : Bool). b && every p (drop (i + 1) s)) q
 
-  pub passing-all : end ≤ i → every p s ≡ true
+  pub testing-all : end ≤ i → every p s ≡ true
   unfolding every
-  passing-all h = sym (g .rest) ∙ ap (every p) (drop-of-length-le s {i = i} (omega (arith, g .ends)))
+  testing-all h = sym (g .rest) ∙ ap (every p) (drop-of-length-le s {i = i} (omega (arith, g .ends)))
 
 pub every-at : (p : ℕ → Bool) (s : Text) (i : ℕ) → every p s ≡ true → i < length s → p (getD s i 0) ≡ true
 unfolding every
@@ -106,7 +106,7 @@ module _ {x : ℕ} (d : isHexDigit x ≡ true) where
       go true e = leb-true x 57 e
       go false e = absurd (false≢true (hex-digit-between (leb-false x 57 e) h ∙ d))
 
-  pub letter-value : 65 ≤ x → (x - 55 ≡ hexValue x) × (x - 55 < 16)
+  pub letter-value : 65 ≤ x → (x - 65 + 10 ≡ hexValue x) × (x - 65 + 10 < 16)
   letter-value h = (sym (ap (λ (b : Bool). letterOr b x) (le-leb 65 x h)), omega (arith, letter-most h))
 
   pub figure-value : x < 65 → (x - 48 ≡ hexValue x) × (x - 48 < 16)
@@ -225,21 +225,21 @@ module _ (s : Text) where
   abbrev no-zero : Bool
   no-zero = eqb (length s) 1 || not (eqb (digitValue (getD s 0 0)) 0)
 
-  none : isDecimal s ≡ false → Bad ≡ numberOf s
-  none e = sym (ap (λ (b : Bool). pick b (Value (value s)) Bad) e)
+  none : isDecimal s ≡ false → Bad ≡ decimalOf s
+  none e = sym (ap (λ (b : Bool). pick b (Value (decimalValue s)) Bad) e)
 
-  pub number-empty : length s ≡ 0 → Bad ≡ numberOf s
+  pub number-empty : length s ≡ 0 → Bad ≡ decimalOf s
   unfolding isDecimal
   number-empty h = none (ap (λ (b : Bool). b && leb (length s) 9 && every isDigit s && no-zero) (lt-leb 1 (length s) (omega arith)))
 
-  pub number-long : 9 < length s → Bad ≡ numberOf s
+  pub number-long : 9 < length s → Bad ≡ decimalOf s
   unfolding isDecimal
   number-long h =
       none
       (ap (λ (b : Bool). leb 1 (length s) && b && every isDigit s && no-zero) (lt-leb (length s) 9 h)
       ∙ ap (λ (b : Bool). b && every isDigit s && no-zero) (and-false (leb 1 (length s))))
 
-  pub number-zero : 1 < length s → getD s 0 0 ≡ 48 → Bad ≡ numberOf s
+  pub number-zero : 1 < length s → getD s 0 0 ≡ 48 → Bad ≡ decimalOf s
   unfolding isDecimal
   number-zero h z =
       let d : eqb (length s) 1 ≡ false = ne-eqb (length s) 1 (λ e. omega arith) in
@@ -262,11 +262,11 @@ module _ (s : Text) where
           let more : getD s 0 0 ≢ 48 = first (omega (arith, some, other)) in
           ap not (ne-eqb (digitValue (getD s 0 0)) 0 (λ z. more (omega (arith, z, x))))
 
-  pub number-digits : length s ≢ 0 → length s ≤ 9 → (1 < length s → getD s 0 0 ≢ 48) → digitsOf 0 s ≡ numberOf s
+  pub number-digits : length s ≢ 0 → length s ≤ 9 → (1 < length s → getD s 0 0 ≢ 48) → digitsOf 0 s ≡ decimalOf s
   unfolding isDecimal
   number-digits some short first =
       digits-picked 0 s
-      ∙ ap (λ (b : Bool). pick b (Value (value s)) Bad)
+      ∙ ap (λ (b : Bool). pick b (Value (decimalValue s)) Bad)
       (go (every isDigit s) refl
       ∙ ap₂ (λ (a b : Bool). a && b && every isDigit s && no-zero) (sym (le-leb 1 (length s) (omega (arith, some)))) (sym (le-leb (length s) 9 short)))
     where
@@ -282,17 +282,17 @@ abbrev hasValue : Decimal → Bool
 hasValue (Value v) = true
 hasValue Bad = false
 
-pub number-read : (s : Text) (v : ℕ) → numberOf s ≡ Value v → (isDecimal s ≡ true) × (value s ≡ v)
+pub number-read : (s : Text) (v : ℕ) → decimalOf s ≡ Value v → (isDecimal s ≡ true) × (decimalValue s ≡ v)
 number-read s v e = go (isDecimal s) e
   where
-    go : (b : Bool) → pick b (Value (value s)) Bad ≡ Value v → (b ≡ true) × (value s ≡ v)
+    go : (b : Bool) → pick b (Value (decimalValue s)) Bad ≡ Value v → (b ≡ true) × (decimalValue s ≡ v)
     go true e = (refl, ap valueIn e)
     go false e = absurd (false≢true (ap hasValue e))
 
-pub number-not : (s : Text) → numberOf s ≡ Bad → isDecimal s ≡ false
+pub number-not : (s : Text) → decimalOf s ≡ Bad → isDecimal s ≡ false
 number-not s e = go (isDecimal s) e
   where
-    go : (b : Bool) → pick b (Value (value s)) Bad ≡ Bad → b ≡ false
+    go : (b : Bool) → pick b (Value (decimalValue s)) Bad ≡ Bad → b ≡ false
     go true e = absurd (true≢false (ap hasValue e))
     go false e = refl
 
@@ -306,7 +306,7 @@ value-below v k (x ∷ s) h e =
     let q : k + suc (length s) ≡ suc k + length s = omega arith in
     rw q (value-below (v * 10 + digitValue x) (suc k) s (omega arith) (d .1))
 
-pub decimal-below : (s : Text) → isDecimal s ≡ true → value s < 10 ^ 9
+pub decimal-below : (s : Text) → isDecimal s ≡ true → decimalValue s < 10 ^ 9
 unfolding isDecimal
 decimal-below s e =
     let a = and-both (leb 1 (length s) && leb (length s) 9 && every isDigit s) (eqb (length s) 1 || not (eqb (digitValue (getD s 0 0)) 0)) e in
@@ -314,7 +314,7 @@ decimal-below s e =
     let c = and-both (leb 1 (length s)) (leb (length s) 9) (b .0) in
     let l : 0 + length s ≤ 9 = omega (arith, leb-true (length s) 9 (c .1)) in
     let p : 10 ^ (0 + length s) ≤ 10 ^ 9 = pow-le-pow-right (omega arith) {i = 0 + length s} {j = 9} l in
-    let v : value s < 10 ^ (0 + length s) = value-below 0 0 s (omega arith) (b .1) in
+    let v : decimalValue s < 10 ^ (0 + length s) = value-below 0 0 s (omega arith) (b .1) in
     omega arith
 
 -- the part that was laid, and one as long

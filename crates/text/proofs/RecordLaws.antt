@@ -1,4 +1,4 @@
--- A line of the dump by its head: document 01's `lineOf` from what the code finds in the line.
+-- A line of the dump by its head: the rules' `lineOf` from what the code finds in the line.
 -- Assumes nothing.
 use mathlib.Core.Path.{_≡_, refl, sym, ap, ap₂, _∙_}
 use mathlib.Core.Logic.{_≢_, inl, inr}
@@ -11,8 +11,8 @@ use lib.ListN.{length, drop, getD}
 use borrow.Author.Tests.{ltb-true, ltb-false, le-leb, eqb-true}
 use Rattle.bytes.specs.Bytes.{indexOf}
 use Rattle.rules.specs.Numbers.{pick}
-use Rattle.rules.specs.Text.{Text, tabulator, parted, fields, every, isDecimal, value, isHexDigit, isHex, hexBytes}
-use Rattle.rules.specs.Dump.{longest, Line, badLine, aRecord, lineOf}
+use Rattle.rules.specs.Text.{Text, tabulator, parted, fields, every, isDecimal, decimalValue, isHexDigit, isHex, hexBytes}
+use Rattle.rules.specs.Dump.{longestLine, Line, badLine, aRecord, lineOf}
 use Rattle.rules.proofs.Laws.OneOfLaws.{and-both}
 use Rattle.rules.proofs.Laws.TextLaws.{all-so, every-all, fields-one}
 use Rattle.text.specs.Read.{fieldOf, badHead, headOf}
@@ -28,11 +28,11 @@ form short l =
 
 abbrev made : Bool → List Text → Line
 made good l =
-    pick good (aRecord (value (getD l 0 [])) (value (getD l 1 [])) (value (getD l 2 [])) (hexBytes (getD l 3 []))) badLine
+    pick good (aRecord (decimalValue (getD l 0 [])) (decimalValue (getD l 1 [])) (decimalValue (getD l 2 [])) (hexBytes (getD l 3 []))) badLine
 
-line-made : (s : Text) {l : List Text} → fields s ≡ l → lineOf s ≡ made (form (leb (length s) longest) l) l
+line-made : (s : Text) {l : List Text} → fields s ≡ l → lineOf s ≡ made (form (leb (length s) longestLine) l) l
 unfolding lineOf
-line-made s e = ap (λ (l : List Text). made (form (leb (length s) longest) l) l) e
+line-made s e = ap (λ (l : List Text). made (form (leb (length s) longestLine) l) l) e
 
 record Formed (l : List Text) : Type 0 where
   four : length l ≡ 4
@@ -60,10 +60,10 @@ form-says short l h =
     }
 
 line-bad : (s : Text) {l : List Text} → fields s ≡ l → (Formed l → ⊥) → lineOf s ≡ badLine
-line-bad s {l} e not = line-made s e ∙ go (form (leb (length s) longest) l) refl
+line-bad s {l} e not = line-made s e ∙ go (form (leb (length s) longestLine) l) refl
   where
-    go : (b : Bool) → form (leb (length s) longest) l ≡ b → made b l ≡ badLine
-    go true q = absurd (not (form-says (leb (length s) longest) l q))
+    go : (b : Bool) → form (leb (length s) longestLine) l ≡ b → made b l ≡ badLine
+    go true q = absurd (not (form-says (leb (length s) longestLine) l q))
     go false q = refl
 
 -- ---- the frame's digits hold no tab
@@ -170,7 +170,7 @@ module _ (s : Text) where
         (λ g. not-hex-field (drop (three .after) s) other (omega (arith, g .four)) (g .hex))
 
   pub line-record :
-      length s ≤ longest → headOf s .«is_good» ≡ true → isHex (drop (headOf s .frame) s) ≡ true
+      length s ≤ longestLine → headOf s .«is_good» ≡ true → isHex (drop (headOf s .frame) s) ≡ true
       → lineOf s ≡ aRecord (headOf s .number) (headOf s .n) (headOf s .allowance) (hexBytes (drop (headOf s .frame) s))
   line-record short good h =
       let k = three-good good in
@@ -182,13 +182,13 @@ module _ (s : Text) where
       let l : fields s ≡ x .first ∷ (y .first ∷ (z .first ∷ (r ∷ []))) =
       cut-3 x y z
       ∙ ap (λ (l : List Text). x .first ∷ (y .first ∷ (z .first ∷ l))) (hex-field r digits) in
-      let f : form (leb (length s) longest) (x .first ∷ (y .first ∷ (z .first ∷ (r ∷ [])))) ≡ true =
+      let f : form (leb (length s) longestLine) (x .first ∷ (y .first ∷ (z .first ∷ (r ∷ [])))) ≡ true =
       ap₂ _&&_
-      (ap₂ _&&_ (ap₂ _&&_ (ap₂ (λ (u v : Bool). u && true && v) (le-leb (length s) longest short) (x .number)) (y .number)) (z .number))
+      (ap₂ _&&_ (ap₂ _&&_ (ap₂ (λ (u v : Bool). u && true && v) (le-leb (length s) longestLine short) (x .number)) (y .number)) (z .number))
       digits in
       line-made s l
       ∙ ap (λ (b : Bool). made b (x .first ∷ (y .first ∷ (z .first ∷ (r ∷ []))))) f
-      ∙ ap₂ (λ (i j : ℕ). aRecord i j (value (z .first)) (hexBytes r)) (x .says) (y .says)
+      ∙ ap₂ (λ (i j : ℕ). aRecord i j (decimalValue (z .first)) (hexBytes r)) (x .says) (y .says)
       ∙ ap (λ (k : ℕ). aRecord (one .value) (two .value) k (hexBytes r)) (z .says)
       ∙ ap (λ (h : Head). aRecord (h .number) (h .n) (h .allowance) (hexBytes (drop (h .frame) s))) (sym (head-is good))
 

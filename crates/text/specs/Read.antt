@@ -6,14 +6,14 @@ use lib.Dec.{ltb}
 use lib.ListN.{length, take, drop}
 use Rattle.bytes.specs.Bytes.{indexOf}
 use Rattle.rules.specs.Numbers.{pick}
-use Rattle.rules.specs.Text.{Text, tabulator, isDigit, digitValue, isDecimal, value}
+use Rattle.rules.specs.Text.{Text, tabulator, isDigit, digitValue, isDecimal, decimalValue}
 use Rattle.text.specs.declared.number.Decimal.{Decimal}
 use Rattle.text.specs.declared.number.Decimal.the-variants.{Value, Bad}
 use Rattle.text.specs.declared.record.Field.{Field}
 use Rattle.text.specs.declared.record.Head.{Head}
 
-abbrev pub numberOf : Text → Decimal
-numberOf s = pick (isDecimal s) (Value (value s)) Bad
+abbrev pub decimalOf : Text → Decimal
+decimalOf s = pick (isDecimal s) (Value (decimalValue s)) Bad
 
 -- v and then the digits of s
 unfoldable pub digitsOf : ℕ → Text → Decimal
@@ -32,7 +32,7 @@ unfoldable pub fieldOf : Text → ℕ → Field
 fieldOf s from =
     let rest : Text = drop from s in
     let i : ℕ = indexOf tabulator rest in
-    pick (closedNumber s from) (record { «is_good» = true; value = value (take i rest); after = from + i + 1 }) badField
+    pick (closedNumber s from) (record { «is_good» = true; value = decimalValue (take i rest); after = from + i + 1 }) badField
 
 abbrev pub badHead : Head
 badHead = record { «is_good» = false; number = 0; n = 0; allowance = 0; frame = 0 }

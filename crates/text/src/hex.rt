@@ -26,7 +26,7 @@ fn hex_value(x: u8) -> u8
     ensures { λ r. ⌜ (r ≡ hexValue x) × (r < 16) ⌝ }
 {
     if x >= b'A' {
-        return x - 55; // b'A' stands for 10
+        return x - b'A' + 10;
     }
     x - b'0'
 }

@@ -1,4 +1,5 @@
 // Texts in lent buffers: digits, hex and fields read, words and numbers written.
+pub mod compare;
 pub mod hex;
 pub mod number;
 pub mod record;

@@ -2,23 +2,27 @@
 ghost use mathlib.Core.Path.{_≡_};
 ghost use Prim.Native.Nat.{_≤_};
 ghost use lib.ListN.{length};
-ghost use Rattle.text.specs.Read.{numberOf, digitsOf};
+ghost use Rattle.rules.specs.Text.{mostDigits};
+ghost use Rattle.text.specs.Read.{decimalOf, digitsOf};
+
+// The digits that a number has room for.
+pub const MOST_DIGITS: usize = 9;
 
 // What a field in decimal says.
-pub enum Decimal {
+pub(crate) enum Decimal {
     Value(usize),
     Bad,
 }
 
-// 1 to 9 digits, no leading zero except 0 itself.
-pub fn number(s: &[u8]) -> Decimal
-    ensures { λ r. ⌜ r ≡ numberOf (now (s .entry)) ⌝ }
+// One digit or more, no more than there is room for; a first digit 0 is the only one.
+pub(crate) fn number(s: &[u8]) -> Decimal
+    ensures { λ r. ⌜ r ≡ decimalOf (now (s .entry)) ⌝ }
 {
     let digits = s.len();
     if digits == 0 {
         return Decimal::Bad;
     }
-    if digits > 9 {
+    if digits > MOST_DIGITS {
         return Decimal::Bad;
     }
     if digits > 1 {
@@ -26,12 +30,12 @@ pub fn number(s: &[u8]) -> Decimal
             return Decimal::Bad;
         }
     }
-    value(s)
+    digits_value(s)
 }
 
-// The value of at most 9 digits.
-fn value(s: &[u8]) -> Decimal
-    requires { ⌜ length (now s) ≤ 9 ⌝ }
+// The value of no more digits than there is room for.
+fn digits_value(s: &[u8]) -> Decimal
+    requires { ⌜ length (now s) ≤ mostDigits ⌝ }
     ensures { λ r. ⌜ r ≡ digitsOf 0 (now (s .entry)) ⌝ }
 {
     let mut v = 0;

@@ -4,11 +4,12 @@ use mathlib.Core.Path.{_≡_}
 use Prim.Native.Nat.{_≤_}
 use lib.ListN.{length}
 use borrow.Author.Needs.{needs}
+use Rattle.dump.specs.Told.{lineRoom}
 use Rattle.repair.proofs.report_all.Statement.{statement}
 use Rattle.repair.proofs.report_all.Tie as tie
 
 abbrev Inv-loop : tie.InvT-loop
-Inv-loop line₀ out₀ current₀ turns₀ line out current turns = (length out ≡ length out₀) × (128 ≤ length out₀)
+Inv-loop line₀ out₀ current₀ turns₀ line out current turns = (length out ≡ length out₀) × (lineRoom ≤ length out₀)
 
 abbrev μ-loop : tie.MeasureT-loop
 μ-loop line₀ out₀ current₀ turns₀ line out current turns = turns

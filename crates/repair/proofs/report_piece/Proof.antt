@@ -8,6 +8,7 @@ use lib.ListN.{length, take, drop, length-drop}
 use lib.Seq.{length-take-le}
 use borrow.Author.Needs.{needs}
 use Rattle.dump.proofs.FeedLaws.{piece-within, piece-some}
+use Rattle.dump.specs.Told.{lineRoom}
 use Rattle.repair.proofs.report_piece.Statement.{statement}
 use Rattle.repair.proofs.report_piece.Tie as tie
 
@@ -17,7 +18,7 @@ rest-length piece from =
 
 abbrev Inv-loop : tie.InvT-loop
 Inv-loop piece line₀ out₀ current₀ from₀ line out current from =
-    (from ≤ length piece) × (length out ≡ length out₀) × (128 ≤ length out₀)
+    (from ≤ length piece) × (length out ≡ length out₀) × (lineRoom ≤ length out₀)
 
 abbrev μ-loop : tie.MeasureT-loop
 μ-loop piece line₀ out₀ current₀ from₀ line out current from = length piece - from

@@ -14,7 +14,7 @@ use borrow.Author.Tests.{lt-ltb, le-ltb, ne-eqb, eqb-true}
 use Rattle.algebra.specs.Sums.{AllN}
 use Rattle.algebra.specs.Tables.{tab, tabFrom}
 use Rattle.algebra.proofs.TableLaws.{tab-suc, tab-ext}
-use Rattle.rules.specs.Text.{Text, tabulator, parted, fields, every, digitValue, valueFrom, value, digits, decimal, hexValue, hexBytes}
+use Rattle.rules.specs.Text.{Text, tabulator, parted, fields, every, digitValue, valueFrom, decimalValue, digits, decimal, hexValue, hexBytes}
 use Rattle.rules.proofs.Laws.OneOfLaws.{and-both}
 
 -- ---- every entry of a text
@@ -164,11 +164,11 @@ unfolding valueFrom
 value-last v [] c = refl
 value-last v (x ∷ s) c = value-last (v * 10 + digitValue x) s c
 
-pub decimal-value : (x : ℕ) → value (decimal x) ≡ x
+pub decimal-value : (x : ℕ) → decimalValue (decimal x) ≡ x
 unfolding valueFrom
 decimal-value =
-    decimal-ind (λ x. value (decimal x) ≡ x) (λ x h. ap value (decimal-small x h) ∙ omega arith)
-    (λ x h ih. ap value (decimal-more x h) ∙ value-last 0 (decimal (x / 10)) (48 + x % 10) ∙ omega (arith, ih))
+    decimal-ind (λ x. decimalValue (decimal x) ≡ x) (λ x h. ap decimalValue (decimal-small x h) ∙ omega arith)
+    (λ x h ih. ap decimalValue (decimal-more x h) ∙ value-last 0 (decimal (x / 10)) (48 + x % 10) ∙ omega (arith, ih))
 
 -- a number, not 0, followed by digits is the decimal of its value
 pub value-decimal : (v : ℕ) (s : Text) → 1 ≤ v → AllN Digit s → decimal (valueFrom v s) ≡ decimal v ++ s

@@ -1,4 +1,4 @@
--- What the lines of a text are.
+-- RULES 8: what the lines of a text are.
 -- Assumes nothing.
 use mathlib.Core.Path.{_≡_, refl, ap, ap₂, _∙_}
 use mathlib.Core.Logic.{_≢_, _⊎_, inl, inr}
@@ -15,22 +15,22 @@ use Rattle.rules.specs.Text.{Text, ascii, parted, lines}
 abbrev pub NoLF : Text → Type 0
 NoLF t = AllN (λ x. x ≢ 10) t
 
--- "A line ends in LF"
-abbrev pub closed : List Text → Text
-closed [] = []
-closed (l ∷ ls) = l ++ ascii "\n" ++ closed ls
+-- lines, each with the LF that closes it
+abbrev pub joinedLines : List Text → Text
+joinedLines [] = []
+joinedLines (l ∷ ls) = l ++ ascii "\n" ++ joinedLines ls
 
 pub record Lines : Type 0 where
-  -- "with nothing after the last LF there is no further line"
-  pub all-closed : (ls : List Text) → All NoLF ls → lines (closed ls) ≡ ls
-  -- "the last may lack it"
+  -- after the last LF there is no line, if nothing follows it
+  pub all-closed : (ls : List Text) → All NoLF ls → lines (joinedLines ls) ≡ ls
+  -- and one that is not closed, if something does
   pub last-open :
-      (ls : List Text) (t : Text) → All NoLF ls → NoLF t → t ≢ [] → lines (closed ls ++ t) ≡ ls ++ (t ∷ [])
+      (ls : List Text) (t : Text) → All NoLF ls → NoLF t → t ≢ [] → lines (joinedLines ls ++ t) ≡ ls ++ (t ∷ [])
   -- each text is one of these, so this is what its lines are
   pub one-of-these :
       (s : Text)
-      → ((ls : List Text) × All NoLF ls × (s ≡ closed ls))
-      ⊎ ((ls : List Text) × (t : Text) × All NoLF ls × NoLF t × (t ≢ []) × (s ≡ closed ls ++ t))
+      → ((ls : List Text) × All NoLF ls × (s ≡ joinedLines ls))
+      ⊎ ((ls : List Text) × (t : Text) × All NoLF ls × NoLF t × (t ≢ []) × (s ≡ joinedLines ls ++ t))
   pub no-lf : (s : Text) → All NoLF (lines s)
 
 -- ---- The proof
@@ -48,23 +48,23 @@ lines-open (x ∷ []) h some = ap (λ b. parted b x (lines [])) (ne-eqb x 10 (h 
 lines-open (x ∷ y ∷ t) h some =
     ap₂ (λ b l. parted b x l) (ne-eqb x 10 (h .0)) (lines-open (y ∷ t) (h .1) (λ e. cons-ne-nil y t e))
 
-lines-closed : (ls : List Text) → All NoLF ls → lines (closed ls) ≡ ls
+lines-closed : (ls : List Text) → All NoLF ls → lines (joinedLines ls) ≡ ls
 unfolding lines
 lines-closed [] h = refl
 lines-closed (l ∷ ls) h =
-    ap lines (append-assoc l (10 ∷ []) (closed ls)) ∙ lines-cut l (closed ls) (h .0) ∙ ap (λ r. l ∷ r) (lines-closed ls (h .1))
+    ap lines (append-assoc l (10 ∷ []) (joinedLines ls)) ∙ lines-cut l (joinedLines ls) (h .0) ∙ ap (λ r. l ∷ r) (lines-closed ls (h .1))
 
-lines-last : (ls : List Text) (t : Text) → All NoLF ls → NoLF t → t ≢ [] → lines (closed ls ++ t) ≡ ls ++ (t ∷ [])
+lines-last : (ls : List Text) (t : Text) → All NoLF ls → NoLF t → t ≢ [] → lines (joinedLines ls ++ t) ≡ ls ++ (t ∷ [])
 lines-last [] t h k some = lines-open t k some
 lines-last (l ∷ ls) t h k some =
-    ap lines (append-assoc (l ++ 10 ∷ []) (closed ls) t ∙ append-assoc l (10 ∷ []) (closed ls ++ t))
-    ∙ lines-cut l (closed ls ++ t) (h .0)
+    ap lines (append-assoc (l ++ 10 ∷ []) (joinedLines ls) t ∙ append-assoc l (10 ∷ []) (joinedLines ls ++ t))
+    ∙ lines-cut l (joinedLines ls ++ t) (h .0)
     ∙ ap (λ r. l ∷ r) (lines-last ls t (h .1) k some)
 
 abbrev Form : Text → Type 0
 Form s =
-    ((ls : List Text) × All NoLF ls × (s ≡ closed ls))
-    ⊎ ((ls : List Text) × (t : Text) × All NoLF ls × NoLF t × (t ≢ []) × (s ≡ closed ls ++ t))
+    ((ls : List Text) × All NoLF ls × (s ≡ joinedLines ls))
+    ⊎ ((ls : List Text) × (t : Text) × All NoLF ls × NoLF t × (t ≢ []) × (s ≡ joinedLines ls ++ t))
 
 form-lf : (x : ℕ) (s : Text) → x ≡ 10 → Form s → Form (x ∷ s)
 form-lf x s e (inl (ls, h, is)) = inl ([] ∷ ls, (tt, h), ap₂ _∷_ e is)

@@ -1,4 +1,4 @@
--- A line of a dump is good exactly if it is the writing of a record, and says which.
+-- RULES 8: a line of a dump is good exactly if it is the writing of a record, and says which.
 -- Assumes nothing.
 use mathlib.Core.Path.{_≡_, refl, sym, ap, ap₂, _∙_, subst}
 use mathlib.Core.Logic.{_≢_, _↔_}
@@ -8,15 +8,15 @@ use Prim.Native.String.{String}
 use Prim.Native.Nat.{ℕ, suc, _+_, _*_, _-_, _/_, _%_, _^_, _≤_, _<_}
 use native.Mathlib.Decide.{decLt, ℕ-discrete}
 use native.Mathlib.Omega.{arith}
-use lib.Dec.{eqb, leb, ltb}
-use lib.ListN.{length, getD}
+use lib.Dec.{eqb, leb, ltb, leb→le}
+use lib.ListN.{length, getD, length-append}
 use borrow.Author.Tests.{eqb-true, eqb-false, eq-eqb, ne-eqb, leb-true, le-leb, ltb-true, not-false, not-true}
 use Rattle.algebra.specs.Sums.{AllN}
 use Rattle.algebra.specs.Tables.{tab, tabFrom, ones}
 use Rattle.algebra.proofs.TableLaws.{count-zero}
-use Rattle.rules.specs.Numbers.{pick}
-use Rattle.rules.specs.Text.{Text, ascii, tabulator, fields, every, isDigit, isDecimal, value, valueFrom, decimal, isHexDigit, hexValue, isHex, hexBytes}
-use Rattle.rules.specs.Dump.{longest, Line, badLine, aRecord, field, isRecord, lineOf}
+use Rattle.rules.specs.Numbers.{pick, frameBytes}
+use Rattle.rules.specs.Text.{Text, ascii, tabulator, fields, every, isDigit, isDecimal, decimalValue, valueFrom, decimal, isHexDigit, hexValue, isHex, hexBytes}
+use Rattle.rules.specs.Dump.{longestLine, Line, badLine, aRecord, fieldAt, isRecord, lineOf}
 use Rattle.rules.proofs.Laws.OneOfLaws.{and-both}
 use Rattle.rules.proofs.Laws.Computing.{computing}
 use Rattle.rules.proofs.Laws.TextLaws.{all-so, every-all, all-every, Digit, decimal-small, decimal-digits, decimal-first, decimal-some, decimal-short, decimal-long, decimal-value, value-decimal, fields-cut, fields-one, tabbed, fields-tabbed, hexBytes-none, hexBytes-two}
@@ -26,32 +26,33 @@ use Rattle.rules.proofs.Laws.TextLaws.{all-so, every-all, all-every, Di
 abbrev pub hexDigit : ℕ → ℕ
 hexDigit h = getD (ascii "0123456789ABCDEF") h 0
 
--- "the frame in upper-case hex": two digits a byte, the higher first
+-- a frame in hex: two digits a byte, the higher first
 unfoldable pub hexText : List ℕ → Text
 hexText [] = []
 hexText (x ∷ frame) = hexDigit (x / 16) ∷ hexDigit (x % 16) ∷ hexText frame
 
--- "four fields parted by tabs: record number, n, allowance (decimal [..]), and the frame"
+-- how a record is written: its number, n and allowance in decimal, the frame in hex, a tab between two of them
 abbrev pub recordLine : ℕ → ℕ → ℕ → List ℕ → Text
 recordLine number n allowance frame =
     decimal number ++ ascii "\t" ++ decimal n ++ ascii "\t" ++ decimal allowance ++ ascii "\t" ++ hexText frame
 
-abbrev pub Bytes : List ℕ → Type 0
-Bytes frame = AllN (λ x. x < 256) frame
+abbrev pub AreBytes : List ℕ → Type 0
+AreBytes frame = AllN (λ x. x < 256) frame
 
--- what a line has room for: "1 to 9 digits", "16,414 characters"
-pub record Fits (number n allowance : ℕ) (frame : List ℕ) : Type 0 where
+-- what a line has room for
+pub record RecordFits (number n allowance : ℕ) (frame : List ℕ) : Type 0 where
   pub number-short : number < 10 ^ 9
   pub n-short : n < 10 ^ 9
   pub allowance-short : allowance < 10 ^ 9
-  pub bytes : Bytes frame
-  pub line-short : length (recordLine number n allowance frame) ≤ 16414
+  pub bytes : AreBytes frame
+  pub line-short : length (recordLine number n allowance frame) ≤ longestLine
 
+-- a line that says a record is its writing
 abbrev pub WrittenAs : Text → Line → Type 0
 WrittenAs s badLine = Unit {0}
-WrittenAs s (aRecord number n allowance frame) = (s ≡ recordLine number n allowance frame) × Fits number n allowance frame
+WrittenAs s (aRecord number n allowance frame) = (s ≡ recordLine number n allowance frame) × RecordFits number n allowance frame
 
--- "(an empty one, one with CR), is bad"
+-- lines and what they say, the empty one and one with CR among them
 abbrev pub lineTable : List (String × Line)
 lineTable =
     ("0\t18\t2\t", aRecord 0 18 2 [])
@@ -73,48 +74,62 @@ lineTable =
     ∷ ("0 18 2 00", badLine)
     ∷ []
 
-abbrev pub Shown : Type 0
-Shown = map (λ item. lineOf (ascii (item .0))) lineTable ≡ map (λ item. item .1) lineTable
+abbrev pub LinesShown : Type 0
+LinesShown = map (λ item. lineOf (ascii (item .0))) lineTable ≡ map (λ item. item .1) lineTable
 
 pub record Records : Type 0 where
-  pub examples : Shown
+  pub examples : LinesShown
   pub read-back :
-      (number n allowance : ℕ) (frame : List ℕ) → Fits number n allowance frame
+      (number n allowance : ℕ) (frame : List ℕ) → RecordFits number n allowance frame
       → lineOf (recordLine number n allowance frame) ≡ aRecord number n allowance frame
   pub only-so : (s : Text) → WrittenAs s (lineOf s)
-  -- "or of any other form [..] is bad"
+  -- a line is bad exactly if it is the writing of no record
   pub bad :
       (s : Text)
       → (lineOf s ≡ badLine)
-      ↔ ((number n allowance : ℕ) (frame : List ℕ) → Fits number n allowance frame → s ≢ recordLine number n allowance frame)
+      ↔ ((number n allowance : ℕ) (frame : List ℕ) → RecordFits number n allowance frame → s ≢ recordLine number n allowance frame)
   -- no line stands for two records
   pub one :
       (number n allowance : ℕ) (frame : List ℕ) (number′ n′ allowance′ : ℕ) (frame′ : List ℕ)
-      → Fits number n allowance frame → Fits number′ n′ allowance′ frame′
+      → RecordFits number n allowance frame → RecordFits number′ n′ allowance′ frame′
       → recordLine number n allowance frame ≡ recordLine number′ n′ allowance′ frame′
       → (number ≡ number′) × (n ≡ n′) × (allowance ≡ allowance′) × (frame ≡ frame′)
 
+-- The greatest record just fits: numbers of nine digits and a frame of n = 256
+pub record LongestLine : Type 0 where
+  pub all-fit :
+      (number n allowance : ℕ) (frame : List ℕ) → number < 10 ^ 9 → n < 10 ^ 9 → allowance < 10 ^ 9 → length frame ≤ frameBytes 256
+      → length (recordLine number n allowance frame) ≤ longestLine
+  pub greatest :
+      (frame : List ℕ) → length frame ≡ frameBytes 256
+      → length (recordLine 999999999 999999999 999999999 frame) ≡ longestLine
+  -- one byte more is too much
+  pub too-long :
+      (frame : List ℕ) → length frame ≡ suc (frameBytes 256)
+      → lineOf (recordLine 999999999 999999999 999999999 frame) ≡ badLine
+  pub characters : longestLine ≡ 16414
+
 -- what a decimal is
 pub record Decimals : Type 0 where
-  pub read-back : (x : ℕ) → value (decimal x) ≡ x
-  -- "decimal", `0` to `9`
+  pub read-back : (x : ℕ) → decimalValue (decimal x) ≡ x
+  -- `0` to `9`
   pub digits : (x : ℕ) → AllN (λ c. (48 ≤ c) × (c ≤ 57)) (decimal x)
-  -- "no leading zero except 0 itself"
+  -- a 0 stands first in no number but 0
   pub zero-itself : decimal 0 ≡ ascii "0"
   pub no-leading : (x : ℕ) → x ≢ 0 → getD (decimal x) 0 0 ≢ 48
-  -- "1 to 9 digits"
+  -- nine digits are enough below a thousand million, and for nothing else
   pub nine : (x : ℕ) → ((1 ≤ length (decimal x)) × (length (decimal x) ≤ 9)) ↔ (x < 10 ^ 9)
   pub one : (x y : ℕ) → decimal x ≡ decimal y → x ≡ y
   -- nothing else is read as a number
-  pub only-so : (s : Text) → isDecimal s ≡ true → s ≡ decimal (value s)
+  pub only-so : (s : Text) → isDecimal s ≡ true → s ≡ decimal (decimalValue s)
 
 pub record Hex : Type 0 where
-  pub read-back : (frame : List ℕ) → Bytes frame → hexBytes (hexText frame) ≡ frame
+  pub read-back : (frame : List ℕ) → AreBytes frame → hexBytes (hexText frame) ≡ frame
   pub only-so : (s : Text) → isHex s ≡ true → s ≡ hexText (hexBytes s)
 
 -- ---- the examples: antt computes them
 
-line-examples : Shown
+line-examples : LinesShown
 unfolding computing
 line-examples = refl
 
@@ -171,7 +186,7 @@ decimal-good x h =
 -- what passes is one
 first-digit :
     (c : ℕ) (t : Text) → Digit c → AllN Digit t → (eqb (length (c ∷ t)) 1 || not (eqb (c - 48) 0)) ≡ true
-    → c ∷ t ≡ decimal (value (c ∷ t))
+    → c ∷ t ≡ decimal (decimalValue (c ∷ t))
 unfolding valueFrom
 first-digit c [] h k e =
     let d : ℕ = 0 * 10 + (c - 48) in
@@ -189,7 +204,7 @@ first-digit c (x ∷ t) h k e =
     other true f e = absurd (true≢false f)
     other false f e = eqb-false (c - 48) 0 (not-true (eqb (c - 48) 0) e)
 
-good-decimal : (s : Text) → isDecimal s ≡ true → (s ≡ decimal (value s)) × (value s < 10 ^ 9)
+good-decimal : (s : Text) → isDecimal s ≡ true → (s ≡ decimal (decimalValue s)) × (decimalValue s < 10 ^ 9)
 unfolding isDecimal
 good-decimal s h =
     let k = and-both (leb 1 (length s) && leb (length s) 9 && every isDigit s) _ h in
@@ -197,11 +212,11 @@ good-decimal s h =
     let m = and-both (leb 1 (length s)) (leb (length s) 9) (l .0) in
     let d = all-so (λ c. isDigit c ≡ true) Digit test-digit s (every-all isDigit s (l .1)) in
     let is = go s (leb-true 1 (length s) (m .0)) d (k .1) in
-    (is, nine-digits (value s) (rw (← is) (leb-true (length s) 9 (m .1))))
+    (is, nine-digits (decimalValue s) (rw (← is) (leb-true (length s) 9 (m .1))))
   where
     go :
         (s : Text) → 1 ≤ length s → AllN Digit s → (eqb (length s) 1 || not (eqb (getD s 0 0 - 48) 0)) ≡ true
-        → s ≡ decimal (value s)
+        → s ≡ decimal (decimalValue s)
     go [] some d e = absurd (omega (arith, some))
     go (c ∷ t) some d e = first-digit c t (d .0) (d .1) e
 
@@ -238,7 +253,7 @@ digit-only x h =
     go true b e h = not-false b h
     go false b e h = absurd (false≢true e)
 
-hex-back : (frame : List ℕ) → Bytes frame → hexBytes (hexText frame) ≡ frame
+hex-back : (frame : List ℕ) → AreBytes frame → hexBytes (hexText frame) ≡ frame
 unfolding hexText
 hex-back [] h = hexBytes-none
 hex-back (x ∷ frame) h =
@@ -249,7 +264,7 @@ hex-back (x ∷ frame) h =
     hexBytes-two (hexDigit (x / 16)) (hexDigit (x % 16)) (hexText frame) ∙ ap₂ _∷_ here (hex-back frame (h .1))
 
 -- a frame's text passes
-hex-all : (frame : List ℕ) → Bytes frame → AllN (λ x. isHexDigit x ≡ true) (hexText frame)
+hex-all : (frame : List ℕ) → AreBytes frame → AllN (λ x. isHexDigit x ≡ true) (hexText frame)
 unfolding hexText
 hex-all [] h = tt
 hex-all (x ∷ frame) h =
@@ -260,14 +275,14 @@ unfolding hexText
 hex-even [] = refl
 hex-even (x ∷ frame) = omega (arith, hex-even frame)
 
-hex-good : (frame : List ℕ) → Bytes frame → isHex (hexText frame) ≡ true
+hex-good : (frame : List ℕ) → AreBytes frame → isHex (hexText frame) ≡ true
 unfolding isHex
 hex-good frame h =
     ap₂ _&&_ (eq-eqb (length (hexText frame) % 2) 0 (hex-even frame)) (all-every isHexDigit (hexText frame) (hex-all frame h))
 
 -- what passes is one
 hex-only :
-    (s : Text) → length s % 2 ≡ 0 → AllN (λ x. isHexDigit x ≡ true) s → (s ≡ hexText (hexBytes s)) × Bytes (hexBytes s)
+    (s : Text) → length s % 2 ≡ 0 → AllN (λ x. isHexDigit x ≡ true) s → (s ≡ hexText (hexBytes s)) × AreBytes (hexBytes s)
 unfolding hexText
 hex-only [] e h = (sym (ap hexText hexBytes-none), rw hexBytes-none tt)
 hex-only (a ∷ []) e h = absurd (omega (arith, e))
@@ -283,7 +298,7 @@ hex-only (a ∷ b ∷ s) e h =
       rw (hexBytes-two a b s) (omega (arith, high .1, low .1), ih .1),
     )
 
-good-hex : (s : Text) → isHex s ≡ true → (s ≡ hexText (hexBytes s)) × Bytes (hexBytes s)
+good-hex : (s : Text) → isHex s ≡ true → (s ≡ hexText (hexBytes s)) × AreBytes (hexBytes s)
 unfolding isHex
 good-hex s h =
     let k = and-both (eqb (length s % 2) 0) (every isHexDigit s) h in
@@ -304,7 +319,7 @@ moved :
 moved a b c d = simp append-assoc
 
 line-fields :
-    (number n allowance : ℕ) (frame : List ℕ) → Bytes frame
+    (number n allowance : ℕ) (frame : List ℕ) → AreBytes frame
     → fields (recordLine number n allowance frame) ≡ decimal number ∷ decimal n ∷ decimal allowance ∷ hexText frame ∷ []
 line-fields number n allowance frame h =
     ap fields (moved (decimal number) (decimal n) (decimal allowance) (hexText frame))
@@ -325,7 +340,7 @@ form b fs =
     b && eqb (length fs) 4 && isDecimal (getD fs 0 []) && isDecimal (getD fs 1 []) && isDecimal (getD fs 2 []) && isHex (getD fs 3 [])
 
 read : List Text → Line
-read fs = aRecord (value (getD fs 0 [])) (value (getD fs 1 [])) (value (getD fs 2 [])) (hexBytes (getD fs 3 []))
+read fs = aRecord (decimalValue (getD fs 0 [])) (decimalValue (getD fs 1 [])) (decimalValue (getD fs 2 [])) (hexBytes (getD fs 3 []))
 
 true-six :
     (a b c d e : Bool) → a ≡ true → b ≡ true → c ≡ true → d ≡ true → e ≡ true → (a && true && b && c && d && e) ≡ true
@@ -343,17 +358,17 @@ six-true a b c d e f h =
     (o .0, o .1, n .1, m .1, l .1, k .1)
 
 writing-good :
-    (number n allowance : ℕ) (frame : List ℕ) → Fits number n allowance frame → isRecord (recordLine number n allowance frame) ≡ true
+    (number n allowance : ℕ) (frame : List ℕ) → RecordFits number n allowance frame → isRecord (recordLine number n allowance frame) ≡ true
 unfolding form
 writing-good number n allowance frame h =
     let s : Text = recordLine number n allowance frame in
-    ap (form (leb (length s) longest)) (line-fields number n allowance frame (h .bytes))
-    ∙ true-six (leb (length s) longest) (isDecimal (decimal number)) (isDecimal (decimal n)) (isDecimal (decimal allowance))
-    (isHex (hexText frame)) (le-leb (length s) longest (omega (arith, h .line-short))) (decimal-good number (h .number-short))
+    ap (form (leb (length s) longestLine)) (line-fields number n allowance frame (h .bytes))
+    ∙ true-six (leb (length s) longestLine) (isDecimal (decimal number)) (isDecimal (decimal n)) (isDecimal (decimal allowance))
+    (isHex (hexText frame)) (le-leb (length s) longestLine (omega (arith, h .line-short))) (decimal-good number (h .number-short))
     (decimal-good n (h .n-short)) (decimal-good allowance (h .allowance-short)) (hex-good frame (h .bytes))
 
 line-back :
-    (number n allowance : ℕ) (frame : List ℕ) → Fits number n allowance frame
+    (number n allowance : ℕ) (frame : List ℕ) → RecordFits number n allowance frame
     → lineOf (recordLine number n allowance frame) ≡ aRecord number n allowance frame
 unfolding lineOf read
 line-back number n allowance frame h =
@@ -378,24 +393,24 @@ good-written : (s : Text) → isRecord s ≡ true → WrittenAs s (read (fields 
 unfolding read
 good-written s h =
     let k =
-    six-true (leb (length s) longest) (eqb (length (fields s)) 4) (isDecimal (field s 0)) (isDecimal (field s 1)) (isDecimal (field s 2))
-    (isHex (field s 3)) h in
-    let a = good-decimal (field s 0) (k .2) in
-    let b = good-decimal (field s 1) (k .3) in
-    let c = good-decimal (field s 2) (k .4) in
-    let d = good-hex (field s 3) (k .5) in
-    let is : s ≡ recordLine (value (field s 0)) (value (field s 1)) (value (field s 2)) (hexBytes (field s 3)) =
+    six-true (leb (length s) longestLine) (eqb (length (fields s)) 4) (isDecimal (fieldAt s 0)) (isDecimal (fieldAt s 1)) (isDecimal (fieldAt s 2))
+    (isHex (fieldAt s 3)) h in
+    let a = good-decimal (fieldAt s 0) (k .2) in
+    let b = good-decimal (fieldAt s 1) (k .3) in
+    let c = good-decimal (fieldAt s 2) (k .4) in
+    let d = good-hex (fieldAt s 3) (k .5) in
+    let is : s ≡ recordLine (decimalValue (fieldAt s 0)) (decimalValue (fieldAt s 1)) (decimalValue (fieldAt s 2)) (hexBytes (fieldAt s 3)) =
     tail-eq-of-cons-eq (sym (fields-tabbed s) ∙ ap tabbed (four-parts (fields s) (eqb-true (length (fields s)) 4 (k .1))))
-    ∙ last (field s 0) (field s 1) (field s 2) (field s 3)
+    ∙ last (fieldAt s 0) (fieldAt s 1) (fieldAt s 2) (fieldAt s 3)
     ∙ four (a .0) (b .0) (c .0) (d .0)
-    ∙ sym (moved (decimal (value (field s 0))) (decimal (value (field s 1))) (decimal (value (field s 2))) (hexText (hexBytes (field s 3)))) in (
+    ∙ sym (moved (decimal (decimalValue (fieldAt s 0))) (decimal (decimalValue (fieldAt s 1))) (decimal (decimalValue (fieldAt s 2))) (hexText (hexBytes (fieldAt s 3)))) in (
       is,
       record {
         number-short = a .1;
         n-short = b .1;
         allowance-short = c .1;
         bytes = d .1;
-        line-short = rw (← is) (omega (arith, leb-true (length s) longest (k .0)));
+        line-short = rw (← is) (omega (arith, leb-true (length s) longestLine (k .0)));
       },
     )
   where
@@ -442,10 +457,70 @@ records = record {
   where
     go :
         (s : Text)
-        → ((number n allowance : ℕ) (frame : List ℕ) → Fits number n allowance frame → s ≢ recordLine number n allowance frame)
+        → ((number n allowance : ℕ) (frame : List ℕ) → RecordFits number n allowance frame → s ≢ recordLine number n allowance frame)
         → (l : Line) → WrittenAs s l → l ≡ badLine
     go s none badLine h = refl
     go s none (aRecord number n allowance frame) h = absurd (none number n allowance frame (h .1) (h .0))
+
+-- ---- the longest line
+
+hex-length : (frame : List ℕ) → length (hexText frame) ≡ 2 * length frame
+unfolding hexText
+hex-length [] = refl
+hex-length (x ∷ frame) = omega (arith, hex-length frame)
+
+line-length :
+    (number n allowance : ℕ) (frame : List ℕ)
+    → length (recordLine number n allowance frame)
+    ≡ length (decimal number) + length (decimal n) + length (decimal allowance) + 3 + 2 * length frame
+line-length number n allowance frame =
+    let a : Text = decimal number in
+    let b : Text = decimal n in
+    let c : Text = decimal allowance in
+    let d : Text = hexText frame in
+    omega (
+      arith,
+      ap length (moved a b c d),
+      length-append a (tabulator ∷ (b ++ tabulator ∷ (c ++ tabulator ∷ d))),
+      length-append b (tabulator ∷ (c ++ tabulator ∷ d)),
+      length-append c (tabulator ∷ d),
+      hex-length frame,
+    )
+
+-- nine nines are nine digits
+nine-nines : length (decimal 999999999) ≡ 9
+nine-nines =
+    let least = decimal-long 8 999999999 (leb→le (10 ^ 8) 999999999 tt) in
+    let most = decimal-short 999999999 9 (leb→le 1000000000 (10 ^ 9) tt) (omega arith) in
+    omega (arith, least, most)
+
+nines-length : (frame : List ℕ) → length (recordLine 999999999 999999999 999999999 frame) ≡ 30 + 2 * length frame
+nines-length frame = omega (arith, line-length 999999999 999999999 999999999 frame, nine-nines)
+
+pub longest-line : LongestLine
+longest-line = record {
+  all-fit = λ number n allowance frame a b c f.
+      omega (
+        arith,
+        line-length number n allowance frame,
+        decimal-short number 9 a (omega arith),
+        decimal-short n 9 b (omega arith),
+        decimal-short allowance 9 c (omega arith),
+        f,
+      );
+  greatest = λ frame f. omega (arith, nines-length frame, f);
+  too-long = λ frame f.
+      go frame f (recordLine 999999999 999999999 999999999 frame) refl (lineOf (recordLine 999999999 999999999 999999999 frame))
+      (line-only (recordLine 999999999 999999999 999999999 frame));
+  characters = refl;
+}
+  where
+    go :
+        (frame : List ℕ) → length frame ≡ suc (frameBytes 256)
+        → (s : Text) → s ≡ recordLine 999999999 999999999 999999999 frame → (l : Line) → WrittenAs s l → l ≡ badLine
+    go frame f s is badLine h = refl
+    go frame f s is (aRecord number n allowance other) h =
+        absurd (omega (arith, nines-length frame, f, ap length is, ap length (h .0), h .1 .line-short))
 
 pub decimals : Decimals
 decimals = record {
@@ -454,7 +529,7 @@ decimals = record {
   zero-itself = decimal-small 0 (omega arith);
   no-leading = decimal-first;
   nine = λ x. (λ h. nine-digits x (h .1), λ h. (decimal-some x, decimal-short x 9 h (omega arith)));
-  one = λ x y e. sym (decimal-value x) ∙ ap value e ∙ decimal-value y;
+  one = λ x y e. sym (decimal-value x) ∙ ap decimalValue e ∙ decimal-value y;
   only-so = λ s h. good-decimal s h .0;
 }
 

@@ -1,4 +1,4 @@
--- The report: document 01's example, and what each line of a dump gives.
+-- RULES 9: the report, with an example, and what each line of a dump gives.
 -- Assumes nothing.
 use mathlib.Core.Path.{_≡_, refl, sym, ap, ap₂, _∙_}
 use mathlib.Core.Logic.{_≢_, _⊎_, inl, inr}
@@ -16,8 +16,8 @@ use Rattle.algebra.proofs.TableLaws.{tab-zero, tab-suc, tab-ext}
 use Rattle.rules.specs.Bits.{frameOf}
 use Rattle.rules.specs.Passes.{clean, repaired, stuck, spent, decoded}
 use Rattle.rules.specs.Numbers.{pick, outside, notLong, notAllowed, frameBytes, Decoded, refused, ended, told, decodeRefusal, decodeSaid}
-use Rattle.rules.specs.Text.{Text, ascii, lines, every, digits, decimal}
-use Rattle.rules.specs.Dump.{header, same, Line, badLine, aRecord, lineOf, afterTabs, reportLine, goodHeader, badHeader, endingText, reported, recordText, lineText, reportFrom, underHeader, report}
+use Rattle.rules.specs.Text.{Text, ascii, same, lines, every, digits, decimal}
+use Rattle.rules.specs.Dump.{header, Line, badLine, aRecord, lineOf, afterTabs, reportLine, goodHeader, badHeader, endingText, reportedCounts, recordText, lineText, reportFrom, underHeader, report}
 use Rattle.rules.proofs.Laws.OneOfLaws.{and-both}
 use Rattle.rules.proofs.Laws.TextLaws.{all-append, all-so, every-all, Digit, decimal-digits, tabbed}
 use Rattle.rules.proofs.Laws.Computing.{computing}
@@ -25,8 +25,7 @@ use Rattle.rules.proofs.Promises.Lines.{NoLF}
 
 -- ---- The statement
 
--- "Input: header; records 0 to 4 with the frames of bench items A, B, C, D at allowance 2, and one with n = 17; then an empty line
--- closed by LF."
+-- frames that end in each way that a short dump can show, a refused one, and an empty line
 abbrev pub Example : Type 0
 Example =
     report (
@@ -47,12 +46,11 @@ Example =
     ++ ascii "?\t7\n"
 
 -- the texts, one after the other
-abbrev pub joined : List Text → Text
-joined [] = []
-joined (t ∷ ts) = t ++ joined ts
+abbrev pub joinedTexts : List Text → Text
+joinedTexts [] = []
+joinedTexts (t ∷ ts) = t ++ joinedTexts ts
 
--- "Then one line a record: number, ending (`clean`, `repaired`, `stuck` or `spent`), passes, flips, rows, columns. Numbers 1, 2 and
--- 4 give `refused`, the number, and three zeros."
+-- a record's line, from what decoding said
 abbrev pub recordSays : ℕ → Decoded → Text
 recordSays number (refused r) = decimal number ++ ascii "\trefused\t" ++ decimal r ++ ascii "\t0\t0\t0\n"
 recordSays number (ended clean p f r c) = decimal number ++ ascii "\tclean\t" ++ decimal p ++ ascii "\t" ++ decimal f ++ ascii "\t0\t0\n"
@@ -69,23 +67,23 @@ RefusedBy (ended e p f r c) = Unit {0}
 
 pub record Reports : Type 0 where
   pub example : Example
-  -- "The report's first line is `repair`, tab, `1`."; the line at index i after the header is line i + 2
+  -- under its own first line the report has what each line gives; the line at index i after the header is line i + 2
   pub numbered :
       (input : Text) (later : List Text) → lines input ≡ ascii "frames\t1" ∷ later
-      → report input ≡ ascii "repair\t1\n" ++ joined (tab (length later) (λ i. lineText (i + 2) (lineOf (getD later i []))))
-  -- "With a bad or missing first line the whole report is `bad header`."
+      → report input ≡ ascii "repair\t1\n" ++ joinedTexts (tab (length later) (λ i. lineText (i + 2) (lineOf (getD later i []))))
+  -- with another first line, or none, it is one line
   pub bad-header :
       (input first : Text) (later : List Text) → lines input ≡ first ∷ later → first ≢ ascii "frames\t1"
       → report input ≡ ascii "bad header\n"
   pub no-header : (input : Text) → lines input ≡ [] → report input ≡ ascii "bad header\n"
-  -- "A bad line gives `?`, tab, its line number"
+  -- a bad line gives its number
   pub bad-line : (k : ℕ) → lineText k badLine ≡ ascii "?\t" ++ decimal k ++ ascii "\n"
-  -- with what decode says of the frame
+  -- a record gives what decoding says of its frame
   pub good-line :
       (k number n allowance : ℕ) (frame : List ℕ)
       → lineText k (aRecord number n allowance frame) ≡ recordSays number (decodeSaid n allowance frame frame)
   pub refusals : (n allowance : ℕ) (frame : List ℕ) → RefusedBy (decodeSaid n allowance frame frame)
-  -- "Every report line ends in LF", and each line gives one
+  -- each line gives one line, closed by LF
   pub one-line : (k : ℕ) (l : Line) → (t : Text) × NoLF t × (lineText k l ≡ t ++ ascii "\n")
 
 -- ---- The example: antt computes it
@@ -135,18 +133,18 @@ unfolding given
 given-next k s later i =
     let e : suc i + k ≡ i + suc k = omega arith in ap (λ m. lineText m (lineOf (getD later i []))) e
 
-from-line : (k : ℕ) (later : List Text) → reportFrom k later ≡ joined (tab (length later) (given k later))
+from-line : (k : ℕ) (later : List Text) → reportFrom k later ≡ joinedTexts (tab (length later) (given k later))
 unfolding reportFrom
-from-line k [] = sym (ap joined (tab-zero (given k [])))
+from-line k [] = sym (ap joinedTexts (tab-zero (given k [])))
 from-line k (s ∷ later) =
-    sym (ap joined (tab-suc (length later) (given k (s ∷ later)))
+    sym (ap joinedTexts (tab-suc (length later) (given k (s ∷ later)))
     ∙ ap₂ _++_ (given-first k s later)
-    (ap joined (tab-ext (length later) (λ i. given k (s ∷ later) (suc i)) (given (suc k) later) (λ i h. given-next k s later i))
+    (ap joinedTexts (tab-ext (length later) (λ i. given k (s ∷ later) (suc i)) (given (suc k) later) (λ i h. given-next k s later i))
     ∙ sym (from-line (suc k) later)))
 
 lines-numbered :
     (input : Text) (later : List Text) → lines input ≡ header ∷ later
-    → report input ≡ goodHeader ++ joined (tab (length later) (given 2 later))
+    → report input ≡ goodHeader ++ joinedTexts (tab (length later) (given 2 later))
 unfolding report
 lines-numbered input later e =
     ap underHeader e
@@ -221,8 +219,8 @@ unfolding every
 line-one-lf k badLine = one-lf (ascii "?") (decimal k ∷ []) (quoted-no-lf (ascii "?") refl) (decimal-no-lf k, tt)
 line-one-lf k (aRecord number n allowance frame) =
     let d : Decoded = decodeSaid n allowance frame frame in
-    one-lf (decimal number) (endingText d ∷ map decimal (reported d)) (decimal-no-lf number)
-    (ending-no-lf d, decimals-no-lf (reported d))
+    one-lf (decimal number) (endingText d ∷ map decimal (reportedCounts d)) (decimal-no-lf number)
+    (ending-no-lf d, decimals-no-lf (reportedCounts d))
 
 pub reports : Reports
 unfolding given

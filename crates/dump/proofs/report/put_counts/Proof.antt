@@ -1,42 +1,52 @@
 -- `dump::report::put_counts` meets its contract.
 -- Assumes nothing.
 use native.Mathlib.Omega.{arith}
-use borrow.Author.Needs.{needs}
 use Rattle.text.proofs.LaidLaws.{lays-then, digits-few}
+use borrow.Author.Needs.{needs}
 use Rattle.dump.proofs.report.put_counts.Statement.{statement}
 use Rattle.dump.proofs.report.put_counts.Tie as tie
 
 put-decimal-requires : tie.Need-put-decimal-requires
-put-decimal-requires c κs =
-    let d = digits-few _ (c .before .before .fits .a .fits) in omega arith
+put-decimal-requires c κs = let g = c .before .before .good .1 .1 .0 .1 .1 in
+    let p = digits-few _ (g .0 .1) in
+    let f = digits-few _ (g .1 .0 .1) in
+    let r = digits-few _ (g .1 .1 .0 .1) in
+    let k = digits-few _ (g .1 .1 .1 .0 .1) in
+    omega arith
 
 put-count-requires : tie.Need-put-count-requires
-put-count-requires c κs =
-    let d = digits-few _ (c .before .before .before .before .before .before .fits .a .fits) in let e = digits-few _ (c .before .before .before .before .before .before .fits .b .fits) in omega arith
+put-count-requires c κs = let g = c .before .before .before .before .before .before .good .1 .1 .0 .1 .1 in
+    let p = digits-few _ (g .0 .1) in
+    let f = digits-few _ (g .1 .0 .1) in
+    let r = digits-few _ (g .1 .1 .0 .1) in
+    let k = digits-few _ (g .1 .1 .1 .0 .1) in
+    omega arith
 
 put-count-requires-2 : tie.Need-put-count-requires-2
-put-count-requires-2 c κs =
-    let d = digits-few _ (c .before .before .before .before .before .before .before .before .before .before .fits .a .fits) in let e = digits-few _ (c .before .before .before .before .before .before .before .before .before .before .fits .b .fits) in let f = digits-few _ (c .before .before .before .before .before .before .before .before .before .before .fits .c .fits) in omega arith
+put-count-requires-2 c κs = let g = c .before .before .before .before .before .before .before .before .before .before .good .1 .1 .0 .1 .1 in
+    let p = digits-few _ (g .0 .1) in
+    let f = digits-few _ (g .1 .0 .1) in
+    let r = digits-few _ (g .1 .1 .0 .1) in
+    let k = digits-few _ (g .1 .1 .1 .0 .1) in
+    omega arith
 
 put-count-requires-3 : tie.Need-put-count-requires-3
-put-count-requires-3 c κs =
-    let f = c .before .before .before .before .before .before .before .before .before .before .before .before .before .before .fits in
-    let da = digits-few _ (f .a .fits) in
-    let db = digits-few _ (f .b .fits) in
-    let dc = digits-few _ (f .c .fits) in
-    let dd = digits-few _ (f .d .fits) in
+put-count-requires-3 c κs = let g = c .before .before .before .before .before .before .before .before .before .before .before .before .before .before .good .1 .1 .0 .1 .1 in
+    let p = digits-few _ (g .0 .1) in
+    let f = digits-few _ (g .1 .0 .1) in
+    let r = digits-few _ (g .1 .1 .0 .1) in
+    let k = digits-few _ (g .1 .1 .1 .0 .1) in
     omega arith
 
 slice-aggregate-put : tie.Need-slice-aggregate-put
 slice-aggregate-put c = search needs
 
 put-requires : tie.Need-put-requires
-put-requires c κs =
-    let f = c .before .before .before .before .before .before .before .before .before .before .before .before .before .before .before .before .before .before .before .fits in
-    let da = digits-few _ (f .a .fits) in
-    let db = digits-few _ (f .b .fits) in
-    let dc = digits-few _ (f .c .fits) in
-    let dd = digits-few _ (f .d .fits) in
+put-requires c κs = let g = c .before .before .before .before .before .before .before .before .before .before .before .before .before .before .before .before .before .before .before .good .1 .1 .0 .1 .1 in
+    let p = digits-few _ (g .0 .1) in
+    let f = digits-few _ (g .1 .0 .1) in
+    let r = digits-few _ (g .1 .1 .0 .1) in
+    let k = digits-few _ (g .1 .1 .1 .0 .1) in
     omega arith
 
 same-length : tie.Need-same-length

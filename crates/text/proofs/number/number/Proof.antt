@@ -20,16 +20,16 @@ shared-slice-read-if4 c = search needs
 returns-3 : tie.Need-returns-3
 returns-3 c = number-zero (c .before .before .before .before .before .before .args .s .now) (c .before .before .if3 .taken) (c .if4 .taken)
 
-value-requires : tie.Need-value-requires
-value-requires c κs = search needs
+digits-value-requires : tie.Need-digits-value-requires
+digits-value-requires c κs = search needs
 
 returns-4 : tie.Need-returns-4
 returns-4 c =
     let g = c .before .before in
-    c .value .ensures
+    c .digits-value .ensures
     ∙ number-digits (g .before .before .before .args .s .now) (g .before .if1 .left) (g .if2 .left)
     (⊎-elim (λ t l. t .2 .left) (λ t l. absurd (omega (arith, t .left, l))) (c .before .if3 .came))
 
 pub number-spec : {M : Type 1} → statement M
 number-spec =
-    tie.close (tie.spec returns returns-2 shared-slice-read-if4 returns-3 value-requires returns-4)
+    tie.close (tie.spec returns returns-2 shared-slice-read-if4 returns-3 digits-value-requires returns-4)

@@ -1,12 +1,12 @@
--- `text::number::value` meets its contract. The loop's invariant: the value so far and then the digits from here on give the whole answer.
+-- `text::number::digits_value` meets its contract. The loop's invariant: the value so far and then the digits from here on give the whole answer.
 -- Assumes nothing.
 use mathlib.Core.Path.{refl}
 use Prim.Native.Nat.{_-_}
 use native.Mathlib.Omega.{arith}
 use borrow.Author.Needs.{needs}
 use Rattle.text.proofs.ReadLaws.{Reading, reading-none, reading-below, reading-above, reading-room, reading-next, reading-all}
-use Rattle.text.proofs.number.value.Statement.{statement}
-use Rattle.text.proofs.number.value.Tie as tie
+use Rattle.text.proofs.number.digits_value.Statement.{statement}
+use Rattle.text.proofs.number.digits_value.Tie as tie
 
 abbrev Inv-loop : tie.InvT-loop
 Inv-loop s v₀ i₀ i-end v i = Reading s i-end v i
@@ -51,8 +51,8 @@ loop-again c =
 returns-3 : tie.Need-returns-3 Inv-loop μ-loop
 returns-3 c = reading-all (c .before .loop .inv) (c .loop-test .left)
 
-pub value-spec : {M : Type 1} → statement M
-value-spec =
+pub digits-value-spec : {M : Type 1} → statement M
+digits-value-spec =
     tie.close
     (tie.spec
     Inv-loop
