@@ -65,6 +65,22 @@ unfoldable pub textAtEnd : State → List ℕ → Text
 textAtEnd s line =
     pick (s .ended) [] (pick (isBetween s) [] (lineSays (s .number) (held (s .length) line)))
 
+-- ---- After several bytes: what a caller keeps between two calls
+
+pub record Kept : Type 0 where
+  pub state : State
+  pub line : List ℕ
+
+abbrev pub keeping : State → List ℕ → Kept
+keeping s line = record { state = s; line = line }
+
+abbrev pub keptAfter : Kept → ℕ → Kept
+keptAfter k x = record { state = stateAfter (k .state) (k .line) x; line = lineAfter (k .state) (k .line) x }
+
+unfoldable pub afterAll : Kept → Text → Kept
+afterAll k [] = k
+afterAll k (x ∷ m) = afterAll (keptAfter k x) m
+
 -- ---- A piece
 
 -- the state, the line buffer, the text handed out so far and the bytes taken

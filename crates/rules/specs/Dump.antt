@@ -6,7 +6,7 @@ use lib.Dec.{eqb, leb}
 use lib.ListN.{length, getD}
 use Rattle.rules.specs.Passes.{clean, repaired, stuck, spent}
 use Rattle.rules.specs.Numbers.{pick, frameBytes, Decoded, refused, ended, Figures, figuresOf, decodeSaid}
-use Rattle.rules.specs.Text.{Text, ascii, lf, tabulator, same, lines, fields, mostDigits, isDecimal, decimalValue, decimal, isHex, hexBytes}
+use Rattle.rules.specs.Text.{Text, ascii, lf, tabulator, same, lines, wholeLines, fields, mostDigits, isDecimal, decimalValue, decimal, isHex, hexBytes}
 
 -- ---- The dump
 
@@ -106,3 +106,13 @@ underHeader (s ∷ later) = pick (same s header) (goodHeader ++ reportFrom 2 lat
 
 unfoldable pub report : Text → Text
 report input = underHeader (lines input)
+
+-- ---- The report of an input that broke off
+
+abbrev pub reportSome : Text → Text
+reportSome [] = []
+reportSome (x ∷ s) = report (x ∷ s)
+
+-- a line that no LF closed may have gone on, so nothing is said of it; where no LF came, nothing is said at all
+unfoldable pub reportCut : Text → Text
+reportCut input = reportSome (wholeLines input)

@@ -51,6 +51,17 @@ unfoldable pub lines : Text → List Text
 lines [] = []
 lines (x ∷ s) = parted (eqb x lf) x (lines s)
 
+-- x before the whole lines that follow it; where none does, x is left out unless it closes a line
+abbrev pub ontoWhole : Bool → ℕ → Text → Text
+ontoWhole true x s = x ∷ s
+ontoWhole false x [] = []
+ontoWhole false x (y ∷ s) = x ∷ y ∷ s
+
+-- a text up to its last LF, that one included
+unfoldable pub wholeLines : Text → Text
+wholeLines [] = []
+wholeLines (x ∷ s) = ontoWhole (eqb x lf) x (wholeLines s)
+
 -- a tab stands between two fields, so there is always one field more than tabs
 unfoldable pub fields : Text → List Text
 fields [] = [] ∷ []

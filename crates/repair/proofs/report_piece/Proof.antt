@@ -1,14 +1,17 @@
--- `repair::report_piece` is safe and ends: each call takes at least one byte, since its buffer has room for a line.
+-- `repair::report_piece` meets its contract. It ends: each call takes at least one byte, since its buffer has room for a line.
 -- Assumes nothing.
-use mathlib.Core.Path.{_≡_}
+use mathlib.Core.Path.{_≡_, refl}
+use mathlib.Core.Bool.{false≢true}
 use mathlib.Core.List.{List}
-use Prim.Native.Nat.{ℕ, _-_, _≤_}
+use Prim.Native.Nat.{ℕ, _+_, _-_, _≤_}
 use native.Mathlib.Omega.{arith}
 use lib.ListN.{length, take, drop, length-drop}
 use lib.Seq.{length-take-le}
 use borrow.Author.Needs.{needs}
 use Rattle.dump.proofs.FeedLaws.{piece-within, piece-some}
+use Rattle.dump.proofs.HandedLaws.{leaves-none, leaves-rest}
 use Rattle.dump.specs.Told.{lineRoom}
+use Rattle.dump.specs.Calls.{Leaves}
 use Rattle.repair.proofs.report_piece.Statement.{statement}
 use Rattle.repair.proofs.report_piece.Tie as tie
 
@@ -18,13 +21,13 @@ rest-length piece from =
 
 abbrev Inv-loop : tie.InvT-loop
 Inv-loop piece line₀ out₀ current₀ from₀ line out current from =
-    (from ≤ length piece) × (length out ≡ length out₀) × (lineRoom ≤ length out₀)
+    (from ≤ length piece) × (length out ≡ length out₀) × (lineRoom ≤ length out₀) × Leaves current₀ line₀ (take from piece) current line
 
 abbrev μ-loop : tie.MeasureT-loop
 μ-loop piece line₀ out₀ current₀ from₀ line out current from = length piece - from
 
 loop-holds : tie.Need-loop-holds Inv-loop μ-loop
-loop-holds c = search needs
+loop-holds c = (omega arith, refl, c .before .before .pre, leaves-none _ _)
 
 sub-take-piece : tie.Need-sub-take-piece Inv-loop μ-loop
 sub-take-piece c = search needs
@@ -60,7 +63,10 @@ same-length : tie.Need-same-length Inv-loop μ-loop
 same-length c = search needs
 
 returns : tie.Need-returns Inv-loop μ-loop
-returns c = search needs
+returns c =
+    let p = c .before .before .before .before .before .before .before .before .before .before .before .before .before .before .before .before .args .piece .now in
+    let f = c .before .before .before .before .before .before .before .before .before .before .before .before .before .loop .from in
+    (f + c .before .before .before .before .before .before .before .before .take-piece .result .taken, leaves-rest _ _ p f _ _ _ _ _ _ (c .before .before .before .before .before .before .before .before .before .before .before .before .before .loop .inv .3) (c .before .before .before .before .before .before .before .before .take-piece .ensures), λ t. absurd (false≢true t))
 
 loop-less : tie.Need-loop-less Inv-loop μ-loop
 loop-less c =
@@ -78,13 +84,13 @@ loop-again c =
     let f = c .before .before .before .before .before .before .before .before .before .before .before .before .before .loop .from in
     let l = rest-length p f in
     let w = piece-within _ _ _ _ _ _ _ (c .before .before .before .before .before .before .before .before .take-piece .ensures) in
-    (omega arith, search needs, search needs)
+    (omega arith, search needs, search needs, leaves-rest _ _ p f _ _ _ _ _ _ (c .before .before .before .before .before .before .before .before .before .before .before .before .before .loop .inv .3) (c .before .before .before .before .before .before .before .before .take-piece .ensures))
 
 same-length-2 : tie.Need-same-length-2 Inv-loop μ-loop
 same-length-2 c = search needs
 
 returns-2 : tie.Need-returns-2 Inv-loop μ-loop
-returns-2 c = search needs
+returns-2 c = (c .before .loop .from, c .before .loop .inv .3, λ t. omega (arith, c .before .loop .inv .0, c .loop-test .left))
 
 pub report-piece-spec : {M : Type 1} → statement M
 report-piece-spec =

@@ -1,13 +1,14 @@
 -- RULES 8: what the lines of a text are.
 -- Assumes nothing.
-use mathlib.Core.Path.{_≡_, refl, ap, ap₂, _∙_}
+use mathlib.Core.Path.{_≡_, refl, sym, ap, ap₂, _∙_}
 use mathlib.Core.Logic.{_≢_, _⊎_, inl, inr}
 use mathlib.Core.List.{List, [], _∷_, _++_, append-assoc, cons-ne-nil}
+use mathlib.Core.Bool.{false}
 use Prim.Native.Nat.{ℕ}
 use native.Mathlib.Decide.{ℕ-discrete}
 use borrow.Author.Tests.{ne-eqb}
 use Rattle.algebra.specs.Sums.{All, AllN}
-use Rattle.rules.specs.Text.{Text, ascii, parted, lines}
+use Rattle.rules.specs.Text.{Text, ascii, parted, lines, ontoWhole, wholeLines}
 
 -- ---- The statement
 
@@ -32,6 +33,8 @@ pub record Lines : Type 0 where
       → ((ls : List Text) × All NoLF ls × (s ≡ joinedLines ls))
       ⊎ ((ls : List Text) × (t : Text) × All NoLF ls × NoLF t × (t ≢ []) × (s ≡ joinedLines ls ++ t))
   pub no-lf : (s : Text) → All NoLF (lines s)
+  -- the whole lines of a text: what no LF closes is left out
+  pub whole-lines : (ls : List Text) (t : Text) → All NoLF ls → NoLF t → wholeLines (joinedLines ls ++ t) ≡ joinedLines ls
 
 -- ---- The proof
 
@@ -92,10 +95,33 @@ none-has : (s : Text) → Form s → All NoLF (lines s)
 none-has s (inl (ls, h, is)) = rw (is, lines-closed ls h) h
 none-has s (inr (ls, t, h, k, some, is)) = rw (is, lines-last ls t h k some) (all-last ls t h k)
 
+whole-none : (t : Text) → NoLF t → wholeLines t ≡ []
+unfolding wholeLines
+whole-none [] h = refl
+whole-none (x ∷ t) h = ap₂ (λ b s. ontoWhole b x s) (ne-eqb x 10 (h .0)) (whole-none t (h .1))
+
+whole-cut : (u t : Text) → NoLF u → wholeLines (u ++ 10 ∷ t) ≡ u ++ 10 ∷ wholeLines t
+unfolding wholeLines
+whole-cut [] t h = refl
+whole-cut (x ∷ u) t h = ap₂ (λ b s. ontoWhole b x s) (ne-eqb x 10 (h .0)) (whole-cut u t (h .1)) ∙ go u
+  where
+    go : (u : Text) → ontoWhole false x (u ++ 10 ∷ wholeLines t) ≡ x ∷ (u ++ 10 ∷ wholeLines t)
+    go [] = refl
+    go (y ∷ u) = refl
+
+wholes : (ls : List Text) (t : Text) → All NoLF ls → NoLF t → wholeLines (joinedLines ls ++ t) ≡ joinedLines ls
+wholes [] t h k = whole-none t k
+wholes (l ∷ ls) t h k =
+    ap wholeLines (append-assoc (l ++ 10 ∷ []) (joinedLines ls) t ∙ append-assoc l (10 ∷ []) (joinedLines ls ++ t))
+    ∙ whole-cut l (joinedLines ls ++ t) (h .0)
+    ∙ ap (λ s. l ++ 10 ∷ s) (wholes ls t (h .1) k)
+    ∙ sym (append-assoc l (10 ∷ []) (joinedLines ls))
+
 pub lines-promise : Lines
 lines-promise = record {
   all-closed = lines-closed;
   last-open = lines-last;
   one-of-these = forms;
   no-lf = λ s. none-has s (forms s);
+  whole-lines = wholes;
 }

@@ -17,11 +17,11 @@ use Rattle.rules.specs.Bits.{frameOf}
 use Rattle.rules.specs.Passes.{clean, repaired, stuck, spent, decoded}
 use Rattle.rules.specs.Numbers.{pick, outside, notLong, notAllowed, frameBytes, Decoded, refused, ended, told, decodeRefusal, decodeSaid}
 use Rattle.rules.specs.Text.{Text, ascii, same, lines, every, digits, decimal}
-use Rattle.rules.specs.Dump.{header, Line, badLine, aRecord, lineOf, afterTabs, reportLine, goodHeader, badHeader, endingText, reportedCounts, recordText, lineText, reportFrom, underHeader, report}
+use Rattle.rules.specs.Dump.{header, Line, badLine, aRecord, lineOf, afterTabs, reportLine, goodHeader, badHeader, endingText, reportedCounts, recordText, lineText, reportFrom, underHeader, report, reportSome, reportCut}
 use Rattle.rules.proofs.Laws.OneOfLaws.{and-both}
 use Rattle.rules.proofs.Laws.TextLaws.{all-append, all-so, every-all, Digit, decimal-digits, tabbed}
 use Rattle.rules.proofs.Laws.Computing.{computing}
-use Rattle.rules.proofs.Promises.Lines.{NoLF}
+use Rattle.rules.proofs.Promises.Lines.{NoLF, joinedLines, lines-promise}
 
 -- ---- The statement
 
@@ -44,6 +44,10 @@ Example =
     ++ ascii "3\tstuck\t2\t0\t3\t3\n"
     ++ ascii "4\trefused\t1\t0\t0\t0\n"
     ++ ascii "?\t7\n"
+
+-- a record that breaks off, after an empty line
+abbrev pub CutExample : Type 0
+CutExample = reportCut (ascii "frames\t1\n" ++ ascii "\n" ++ ascii "0\t18\t2\t00") ≡ ascii "repair\t1\n" ++ ascii "?\t2\n"
 
 -- the texts, one after the other
 abbrev pub joinedTexts : List Text → Text
@@ -83,6 +87,12 @@ pub record Reports : Type 0 where
       (k number n allowance : ℕ) (frame : List ℕ)
       → lineText k (aRecord number n allowance frame) ≡ recordSays number (decodeSaid n allowance frame frame)
   pub refusals : (n allowance : ℕ) (frame : List ℕ) → RefusedBy (decodeSaid n allowance frame frame)
+  -- of an input that broke off, the lines that an LF closed are reported as a dump of these alone would be; with none, nothing is
+  pub cut-example : CutExample
+  pub cut :
+      (l : Text) (ls : List Text) (rest : Text) → All NoLF (l ∷ ls) → NoLF rest
+      → reportCut (joinedLines (l ∷ ls) ++ rest) ≡ report (joinedLines (l ∷ ls))
+  pub cut-first : (rest : Text) → NoLF rest → reportCut rest ≡ []
   -- each line gives one line, closed by LF
   pub one-line : (k : ℕ) (l : Line) → (t : Text) × NoLF t × (lineText k l ≡ t ++ ascii "\n")
 
@@ -222,6 +232,26 @@ line-one-lf k (aRecord number n allowance frame) =
     one-lf (decimal number) (endingText d ∷ map decimal (reportedCounts d)) (decimal-no-lf number)
     (ending-no-lf d, decimals-no-lf (reportedCounts d))
 
+-- ---- an input that broke off
+
+cut-shown : CutExample
+unfolding computing
+cut-shown = refl
+
+cut-lines :
+    (l : Text) (ls : List Text) (rest : Text) → All NoLF (l ∷ ls) → NoLF rest
+    → reportCut (joinedLines (l ∷ ls) ++ rest) ≡ report (joinedLines (l ∷ ls))
+unfolding reportCut
+cut-lines l ls rest h k = ap reportSome (lines-promise .whole-lines (l ∷ ls) rest h k) ∙ go l
+  where
+    go : (l : Text) → reportSome (joinedLines (l ∷ ls)) ≡ report (joinedLines (l ∷ ls))
+    go [] = refl
+    go (x ∷ l) = refl
+
+cut-none : (rest : Text) → NoLF rest → reportCut rest ≡ []
+unfolding reportCut
+cut-none rest k = ap reportSome (lines-promise .whole-lines [] rest tt k)
+
 pub reports : Reports
 unfolding given
 reports = record {
@@ -232,5 +262,8 @@ reports = record {
   bad-line = λ k. refl;
   good-line = λ k number n allowance frame. says number (decodeSaid n allowance frame frame);
   refusals = refused-by;
+  cut-example = cut-shown;
+  cut = cut-lines;
+  cut-first = cut-none;
   one-line = line-one-lf;
 }
