@@ -11,14 +11,14 @@ use borrow.Author.Tests.{not-true, not-false}
 use Rattle.rules.specs.Numbers.{decodeSaid}
 use Rattle.rules.specs.Text.{Text, isHex, hexBytes}
 use Rattle.rules.specs.Dump.{Line, badLine, aRecord, longestLine, questioned, recordText, lineText, lineOf}
-use Rattle.frame.specs.declared.decode.Report.{Report}
-use Rattle.frame.specs.Said.{reportOf}
+use Rattle.frame.specs.declared.decode.Decoded.{Decoded}
+use Rattle.frame.specs.Said.{decodedOf}
 use Rattle.text.specs.declared.record.Head.{Head}
 use Rattle.text.specs.Laid.{Lays}
 use Rattle.text.specs.Read.{headOf}
-use Rattle.dump.specs.Told.{reportText}
+use Rattle.dump.specs.Told.{decodedText}
 use Rattle.text.proofs.RecordLaws.{line-bad-head, line-bad-frame, line-record}
-use Rattle.dump.proofs.ToldLaws.{report-said}
+use Rattle.dump.proofs.ToldLaws.{decoded-said}
 
 -- the fourth field, as the code has it
 abbrev pub digitsAt : Text → ℕ → Text
@@ -53,16 +53,16 @@ module _ (s : Text) (h : Head) (e : h ≡ headOf s) (k : ℕ) (out : List ℕ) (
 
     -- what decoding the frame said is what the line reports
     pub record-reported :
-        length s ≤ longestLine → not x ≡ false → (a : Report)
-        → a ≡ reportOf (decodeSaid (h .n) (h .allowance) (hexBytes (digitsAt s (h .frame))) (hexBytes (digitsAt s (h .frame))))
-        → Lays out at (reportText (h .number) a) r exit → Lays out at (lineText k (lineOf s)) r exit
+        length s ≤ longestLine → not x ≡ false → (a : Decoded)
+        → a ≡ decodedOf (decodeSaid (h .n) (h .allowance) (hexBytes (digitsAt s (h .frame))) (hexBytes (digitsAt s (h .frame))))
+        → Lays out at (decodedText (h .number) a) r exit → Lays out at (lineText k (lineOf s)) r exit
     record-reported short b a w l =
         as-line
         (aRecord (headOf s .number) (headOf s .n) (headOf s .allowance) (hexBytes (drop (headOf s .frame) s)))
         (line-record s short good-head (hex-rest ∙ not-false _ b))
         (subst (λ (t : Text). Lays out at t r exit)
-        (ap (reportText (h .number)) w
-        ∙ report-said (h .number)
+        (ap (decodedText (h .number)) w
+        ∙ decoded-said (h .number)
         (decodeSaid (h .n) (h .allowance) (hexBytes (digitsAt s (h .frame))) (hexBytes (digitsAt s (h .frame))))
         ∙ ap (λ (d : Text). recordText (h .number) (decodeSaid (h .n) (h .allowance) (hexBytes d) (hexBytes d))) (digits-rest s (h .frame))
         ∙ ap (λ (y : Head). recordText (y .number) (decodeSaid (y .n) (y .allowance) (hexBytes (drop (y .frame) s)) (hexBytes (drop (y .frame) s)))) e)

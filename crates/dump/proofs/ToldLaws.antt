@@ -9,15 +9,17 @@ use lib.ListN.{length}
 use Rattle.rules.specs.Bits.{frameOf}
 use Rattle.rules.specs.Passes as passes
 use Rattle.rules.specs.Passes.{decoded}
-use Rattle.rules.specs.Numbers.{Decoded, refused, ended, pick, first, outside, notLong, notAllowed, frameBytes, told, decodeRefusal, decodeSaid}
+use Rattle.rules.specs.Numbers as rules
+use Rattle.rules.specs.Numbers.{refused, ended, pick, first, outside, notLong, notAllowed, frameBytes, told, decodeRefusal, decodeSaid}
 use Rattle.rules.specs.Text.{Text}
 use Rattle.rules.specs.Dump.{recordText}
 use Rattle.frame.specs.declared.decode.Ending.{Ending}
 use Rattle.frame.specs.declared.decode.Report.{Report}
-use Rattle.frame.specs.Said.{reportOf}
+use Rattle.frame.specs.declared.decode.Decoded.{Decoded}
+use Rattle.frame.specs.Said.{decodedOf}
 use Rattle.text.specs.Laid.{Lays}
 use Rattle.dump.specs.declared.report.Counts.{Counts}
-use Rattle.dump.specs.Told.{wordAndCounts, textFor, reportText}
+use Rattle.dump.specs.Told.{wordAndCounts, textFor, reportText, decodedText}
 
 -- one ending's line is the report's, where that ended so and the counts are that ending's
 pub told-here :
@@ -28,13 +30,19 @@ told-here r e q number word k c h t s at x exit =
     subst (λ (u : Text). Lays s at u x exit)
     (ap (wordAndCounts number word) h ∙ sym t ∙ ap (λ (d : Ending). textFor number d r) (sym q))
 
+-- one answer's line is the whole answer's
+pub told-as :
+    (number : ℕ) (d e : Decoded) → d ≡ e → (t : Text) → t ≡ decodedText number e → (s : List ℕ) (at x : ℕ) (exit : List ℕ)
+    → Lays s at t x exit → Lays s at (decodedText number d) x exit
+told-as number d e q t h s at x exit = subst (λ (u : Text). Lays s at u x exit) (h ∙ ap (decodedText number) (sym q))
+
 -- a record's line, as the rules have it
-pub report-said : (number : ℕ) (d : Decoded) → reportText number (reportOf d) ≡ recordText number d
-report-said number (refused k) = refl
-report-said number (ended passes.clean p f r c) = refl
-report-said number (ended passes.repaired p f r c) = refl
-report-said number (ended passes.stuck p f r c) = refl
-report-said number (ended passes.spent p f r c) = refl
+pub decoded-said : (number : ℕ) (d : rules.Decoded) → decodedText number (decodedOf d) ≡ recordText number d
+decoded-said number (refused k) = refl
+decoded-said number (ended passes.clean p f r c) = refl
+decoded-said number (ended passes.repaired p f r c) = refl
+decoded-said number (ended passes.stuck p f r c) = refl
+decoded-said number (ended passes.spent p f r c) = refl
 
 -- the output matters to what is said by its length alone
 pub said-of-length :
@@ -55,7 +63,7 @@ said-of-length n allowance input output output₂ h =
     h
 
 pub said-of :
-    (n allowance : ℕ) (received mended frame : List ℕ) (r : Report) → r ≡ reportOf (decodeSaid n allowance received mended)
-    → received ≡ frame → length mended ≡ length frame → r ≡ reportOf (decodeSaid n allowance frame frame)
+    (n allowance : ℕ) (received mended frame : List ℕ) (r : Decoded) → r ≡ decodedOf (decodeSaid n allowance received mended)
+    → received ≡ frame → length mended ≡ length frame → r ≡ decodedOf (decodeSaid n allowance frame frame)
 said-of n allowance received mended frame r e p q =
-    e ∙ ap reportOf (ap (λ (x : List ℕ). decodeSaid n allowance x mended) p ∙ said-of-length n allowance frame mended frame q)
+    e ∙ ap decodedOf (ap (λ (x : List ℕ). decodeSaid n allowance x mended) p ∙ said-of-length n allowance frame mended frame q)

@@ -4,8 +4,10 @@ use Prim.Native.Nat.{ℕ, _+_, _*_}
 use Rattle.rules.specs.Text.{Text, ascii, decimal}
 use Rattle.rules.specs.Dump.{reportLine}
 use Rattle.frame.specs.declared.decode.Ending.{Ending}
-use Rattle.frame.specs.declared.decode.Ending.the-variants.{Clean, Repaired, Stuck, Spent, Refused}
+use Rattle.frame.specs.declared.decode.Ending.the-variants.{Clean, Repaired, Stuck, Spent}
 use Rattle.frame.specs.declared.decode.Report.{Report}
+use Rattle.frame.specs.declared.decode.Decoded.{Decoded}
+use Rattle.frame.specs.declared.decode.Decoded.the-variants.{Refused, Ended}
 use Rattle.dump.specs.declared.report.Counts.{Counts}
 
 -- the digits of the greatest number of a machine word, and the letters of the longest word
@@ -47,7 +49,10 @@ textFor number Clean r = wordAndCounts number (ascii "clean") (mendedCounts r)
 textFor number Repaired r = wordAndCounts number (ascii "repaired") (mendedCounts r)
 textFor number Stuck r = wordAndCounts number (ascii "stuck") (badCounts r)
 textFor number Spent r = wordAndCounts number (ascii "spent") (badCounts r)
-textFor number (Refused k) r = wordAndCounts number (ascii "refused") (refusedCounts k)
 
 abbrev pub reportText : ℕ → Report → Text
 reportText number r = textFor number (r .ending) r
+
+abbrev pub decodedText : ℕ → Decoded → Text
+decodedText number (Refused k) = wordAndCounts number (ascii "refused") (refusedCounts k)
+decodedText number (Ended r) = reportText number r

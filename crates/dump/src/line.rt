@@ -1,8 +1,8 @@
 // What a line gives in the report.
+use crate::report::put_decoded;
 use crate::report::put_questioned;
-use crate::report::put_report;
 use crate::sizes::MOST_BYTES;
-use frame::decode::Report;
+use frame::decode::Decoded;
 use frame::decode::decode;
 use text::hex::bytes_of;
 use text::hex::is_hex;
@@ -14,7 +14,7 @@ ghost use lib.ListN.{length};
 ghost use Rattle.rules.specs.Numbers.{decodeSaid};
 ghost use Rattle.rules.specs.Text.{isHex, hexBytes};
 ghost use Rattle.rules.specs.Dump.{longestLine, lineText, lineOf};
-ghost use Rattle.frame.specs.Said.{reportOf};
+ghost use Rattle.frame.specs.Said.{decodedOf};
 ghost use Rattle.text.specs.Laid.{Lays};
 ghost use Rattle.dump.specs.Told.{lineRoom};
 
@@ -25,19 +25,19 @@ fn decode_into(
     digits: &[u8],
     received: &mut [u8],
     mended: &mut [u8],
-) -> Report
+) -> Decoded
     requires { ⌜ isHex (now digits) ≡ true ⌝ }
     requires { ⌜ (length (now digits) / 2 ≤ length (now received)) × (length (now digits) / 2 ≤ length (now mended)) ⌝ }
-    ensures { λ r. ⌜ r ≡ reportOf (decodeSaid n allowance (hexBytes (now (digits .entry))) (hexBytes (now (digits .entry)))) ⌝ }
+    ensures { λ r. ⌜ r ≡ decodedOf (decodeSaid n allowance (hexBytes (now (digits .entry))) (hexBytes (now (digits .entry)))) ⌝ }
 {
     let bytes = bytes_of(digits, received);
     decode(n, allowance, &received[0..bytes], &mut mended[0..bytes])
 }
 
-fn decode_digits(n: usize, allowance: usize, digits: &[u8]) -> Report
+fn decode_digits(n: usize, allowance: usize, digits: &[u8]) -> Decoded
     requires { ⌜ isHex (now digits) ≡ true ⌝ }
     requires { ⌜ length (now digits) ≤ longestLine ⌝ }
-    ensures { λ r. ⌜ r ≡ reportOf (decodeSaid n allowance (hexBytes (now (digits .entry))) (hexBytes (now (digits .entry)))) ⌝ }
+    ensures { λ r. ⌜ r ≡ decodedOf (decodeSaid n allowance (hexBytes (now (digits .entry))) (hexBytes (now (digits .entry)))) ⌝ }
 {
     let mut received = [0u8; MOST_BYTES];
     let mut mended = [0u8; MOST_BYTES];
@@ -59,6 +59,6 @@ pub(crate) fn put_reported(out: &mut [u8], at: usize, number: usize, line: &[u8]
     if !is_hex(digits) {
         return put_questioned(out, at, number);
     }
-    let report = decode_digits(head.n, head.allowance, digits);
-    put_report(out, at, head.number, report)
+    let decoded = decode_digits(head.n, head.allowance, digits);
+    put_decoded(out, at, head.number, decoded)
 }

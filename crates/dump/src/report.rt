@@ -1,4 +1,5 @@
 // Lines of the report.
+use frame::decode::Decoded;
 use frame::decode::Ending;
 use frame::decode::Report;
 use text::write::put;
@@ -10,7 +11,7 @@ ghost use Prim.Native.Nat.{_+_, _≤_};
 ghost use lib.ListN.{length};
 ghost use Rattle.rules.specs.Dump.{questioned};
 ghost use Rattle.text.specs.Laid.{Lays};
-ghost use Rattle.dump.specs.Told.{lineRoom, countsRoom, mostLetters, countsText, wordAndCounts, mendedCounts, badCounts, refusedCounts, reportText};
+ghost use Rattle.dump.specs.Told.{lineRoom, countsRoom, mostLetters, countsText, wordAndCounts, mendedCounts, badCounts, refusedCounts, reportText, decodedText};
 
 pub(crate) fn put_questioned(out: &mut [u8], at: usize, number: usize) -> usize
     requires { ⌜ at + lineRoom ≤ length (now out) ⌝ }
@@ -85,7 +86,7 @@ fn refused_counts(number: u32) -> Counts
     }
 }
 
-pub(crate) fn put_report(out: &mut [u8], at: usize, number: usize, report: Report) -> usize
+fn put_report(out: &mut [u8], at: usize, number: usize, report: Report) -> usize
     requires { ⌜ at + lineRoom ≤ length (now out) ⌝ }
     ensures { λ r. ⌜ Lays (now (out .entry)) at (reportText number report) r (now (out .exit)) ⌝ }
 {
@@ -95,6 +96,15 @@ pub(crate) fn put_report(out: &mut [u8], at: usize, number: usize, report: Repor
         Ending::Repaired => put_line(out, at, number, b"repaired", mended_counts(report)),
         Ending::Stuck => put_line(out, at, number, b"stuck", bad_counts(report)),
         Ending::Spent => put_line(out, at, number, b"spent", bad_counts(report)),
-        Ending::Refused(k) => put_line(out, at, number, b"refused", refused_counts(k)),
+    }
+}
+
+pub(crate) fn put_decoded(out: &mut [u8], at: usize, number: usize, decoded: Decoded) -> usize
+    requires { ⌜ at + lineRoom ≤ length (now out) ⌝ }
+    ensures { λ r. ⌜ Lays (now (out .entry)) at (decodedText number decoded) r (now (out .exit)) ⌝ }
+{
+    match decoded {
+        Decoded::Refused(k) => put_line(out, at, number, b"refused", refused_counts(k)),
+        Decoded::Ended(report) => put_report(out, at, number, report),
     }
 }

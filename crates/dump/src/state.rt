@@ -1,7 +1,7 @@
 // A dump taken byte by byte, or in pieces of any size.
 use crate::line::put_reported;
 use crate::report::put_questioned;
-use crate::sizes::LONGEST;
+use crate::sizes::LONGEST_LINE;
 use crate::sizes::ROOM;
 use text::compare::same;
 use text::write::put;
@@ -60,7 +60,7 @@ fn is_header(long: usize, line: &[u8]) -> bool
     requires { ⌜ length (now line) ≡ longestLine ⌝ }
     ensures { λ r. ⌜ r ≡ same (held long (now (line .entry))) header ⌝ }
 {
-    if long > LONGEST {
+    if long > LONGEST_LINE {
         return false;
     }
     same(&line[0..long], b"frames\t1")
@@ -88,7 +88,7 @@ fn put_closed(out: &mut [u8], at: usize, state: State, line: &[u8]) -> usize
     if number == 1 {
         return put_header(out, at, is_header(length, line));
     }
-    if length > LONGEST {
+    if length > LONGEST_LINE {
         return put_questioned(out, at, number);
     }
     put_reported(out, at, number, &line[0..length])
@@ -121,7 +121,7 @@ fn longer_line(state: State) -> State
     ensures { λ r. ⌜ r ≡ longer state ⌝ }
 {
     let length = state.length;
-    if length <= LONGEST {
+    if length <= LONGEST_LINE {
         return State {
             number: state.number,
             length: length + 1,
@@ -166,7 +166,12 @@ fn step_at(state: State, byte: u8, line: &mut [u8], out: &mut [u8], at: usize) -
 }
 
 // One byte of the dump; the text that it hands out stands at the start of `out`.
-pub fn take_byte(state: State, byte: u8, line: &mut [u8; LONGEST], out: &mut [u8; ROOM]) -> Step
+pub fn take_byte(
+    state: State,
+    byte: u8,
+    line: &mut [u8; LONGEST_LINE],
+    out: &mut [u8; ROOM],
+) -> Step
     ensures { λ r. ⌜ TakesByte state byte (now (line .entry)) (now (out .entry)) 0 r (now (line .exit)) (now (out .exit)) ⌝ }
 {
     step_at(state, byte, line, out, 0)
@@ -200,7 +205,12 @@ fn take_bytes(state: State, piece: &[u8], line: &mut [u8], out: &mut [u8]) -> Ta
 }
 
 // As many bytes of the piece as `out` has room for, `ROOM` a line of the report. The next call takes the rest.
-pub fn take_piece(state: State, piece: &[u8], line: &mut [u8; LONGEST], out: &mut [u8]) -> Taken
+pub fn take_piece(
+    state: State,
+    piece: &[u8],
+    line: &mut [u8; LONGEST_LINE],
+    out: &mut [u8],
+) -> Taken
     ensures { λ r. ⌜ TakesPiece state (now (piece .entry)) (now (line .entry)) (now (out .entry)) r (now (line .exit)) (now (out .exit)) ⌝ }
 {
     take_bytes(state, piece, line, out)
@@ -217,7 +227,7 @@ fn is_between(state: State) -> bool
 }
 
 // At the end of the input: a last line without its LF, or the header that is missing.
-pub fn finish(state: State, line: &[u8; LONGEST], out: &mut [u8; ROOM]) -> usize
+pub fn finish(state: State, line: &[u8; LONGEST_LINE], out: &mut [u8; ROOM]) -> usize
     ensures { λ r. ⌜ Finishes state (now (line .entry)) (now (out .entry)) r (now (out .exit)) ⌝ }
 {
     if state.ended {

@@ -1,5 +1,5 @@
 // The desktop program: a dump from standard input, its report to standard output.
-use dump::sizes::LONGEST;
+use dump::sizes::LONGEST_LINE;
 use dump::sizes::ROOM;
 use dump::state::State;
 use dump::state::finish;
@@ -29,7 +29,7 @@ struct Next {
 }
 
 // Takes a whole piece, in as many calls as the report's buffer asks for, and writes what each call hands out.
-fn report_piece(state: State, piece: &[u8], line: &mut [u8; LONGEST], out: &mut [u8]) -> Next
+fn report_piece(state: State, piece: &[u8], line: &mut [u8; LONGEST_LINE], out: &mut [u8]) -> Next
     requires { ⌜ lineRoom ≤ length (now out) ⌝ }
     ensures { λ r. ⌜ LeavesPart state (now (line .entry)) (now (piece .entry)) (r .written) (r .state) (now (line .exit)) ⌝ }
 {
@@ -58,7 +58,7 @@ fn report_piece(state: State, piece: &[u8], line: &mut [u8; LONGEST], out: &mut 
 }
 
 // Reads once. After a read that fails nobody knows how the line that was being read goes on: the input has not ended.
-fn report_some(state: State, line: &mut [u8; LONGEST], out: &mut [u8]) -> Next
+fn report_some(state: State, line: &mut [u8; LONGEST_LINE], out: &mut [u8]) -> Next
     requires { ⌜ lineRoom ≤ length (now out) ⌝ }
     ensures { λ r. ⌜ LeavesSome state (now (line .entry)) (r .state) (now (line .exit)) ⌝ }
 {
@@ -77,7 +77,7 @@ fn report_some(state: State, line: &mut [u8; LONGEST], out: &mut [u8]) -> Next
 }
 
 // A proved loop has to end: it counts down from a number of reads that no run uses up.
-fn report_all(line: &mut [u8; LONGEST], out: &mut [u8]) -> Next
+fn report_all(line: &mut [u8; LONGEST_LINE], out: &mut [u8]) -> Next
     requires { ⌜ lineRoom ≤ length (now out) ⌝ }
     ensures { λ r. ⌜ LeavesSome atStart (now (line .entry)) (r .state) (now (line .exit)) ⌝ }
 {
@@ -100,7 +100,7 @@ fn report_all(line: &mut [u8; LONGEST], out: &mut [u8]) -> Next
 }
 
 // At the end of the input: the last line, where no LF closed it, or the header that is missing.
-fn report_last(state: State, line: &[u8; LONGEST]) -> bool {
+fn report_last(state: State, line: &[u8; LONGEST_LINE]) -> bool {
     let mut last = [0u8; ROOM];
     let n = finish(state, line, &mut last);
     io::write_all(STDOUT_FILENO, &last[0..n])
@@ -121,7 +121,7 @@ fn complain(written: bool) {
 }
 
 fn main() {
-    let mut line = [0u8; LONGEST];
+    let mut line = [0u8; LONGEST_LINE];
     let mut out = [0u8; OUT];
     let end = report_all(&mut line, &mut out);
     if !end.at_end {

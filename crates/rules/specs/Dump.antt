@@ -4,6 +4,7 @@ use mathlib.Core.List.{List, [], _∷_, _++_, map}
 use Prim.Native.Nat.{ℕ, suc, _+_, _*_}
 use lib.Dec.{eqb, leb}
 use lib.ListN.{length, getD}
+use Rattle.rules.specs.Words.{longest}
 use Rattle.rules.specs.Passes.{clean, repaired, stuck, spent}
 use Rattle.rules.specs.Numbers.{pick, frameBytes, Decoded, refused, ended, Figures, figuresOf, decodeSaid}
 use Rattle.rules.specs.Text.{Text, ascii, lf, tabulator, same, lines, wholeLines, fields, mostDigits, isDecimal, decimalValue, decimal, isHex, hexBytes}
@@ -16,7 +17,7 @@ header = ascii "frames\t1"
 
 -- the bytes of the greatest frame
 abbrev pub greatestFrame : ℕ
-greatestFrame = frameBytes 256
+greatestFrame = frameBytes longest
 
 -- the characters of the longest line, without its LF: three numbers, each with a tab after it, and the greatest frame in hex
 abbrev pub longestLine : ℕ

@@ -41,14 +41,14 @@ returns-2 c = let a = c .before .before .before .before .before .before .before 
 decode-digits-requires : tie.Need-decode-digits-requires
 decode-digits-requires c κs = (hex-known _ _ (c .before .is-hex .ensures) (c .if2 .left), digits-short (c .before .before .before .before .before .before .before .before .args .line .now) (c .before .before .before .before .before .record-head .result .frame) (c .before .before .before .before .before .before .before .before .pre .1))
 
-put-report-requires : tie.Need-put-report-requires
-put-report-requires c κs = search needs
+put-decoded-requires : tie.Need-put-decoded-requires
+put-decoded-requires c κs = search needs
 
 same-length-3 : tie.Need-same-length-3
 same-length-3 c = search needs
 
 returns-3 : tie.Need-returns-3
-returns-3 c = let a = c .before .before .before .before .before .before .before .before .before .before .before .before .before .args in record-reported (a .line .now) (c .before .before .before .before .before .before .before .before .before .before .record-head .result) (c .before .before .before .before .before .before .before .before .before .before .record-head .ensures .0) (a .number) _ _ _ _ (c .before .before .before .before .before .before .before .before .if1 .left) (c .before .before .before .before .before .before .is-hex .result) (c .before .before .before .before .before .before .is-hex .ensures) (c .before .before .before .before .before .before .before .before .before .before .before .before .before .pre .1) (c .before .before .before .before .before .if2 .left) (c .before .before .before .before .decode-digits .result) (c .before .before .before .before .decode-digits .ensures) (c .before .before .put-report .ensures)
+returns-3 c = let a = c .before .before .before .before .before .before .before .before .before .before .before .before .before .args in record-reported (a .line .now) (c .before .before .before .before .before .before .before .before .before .before .record-head .result) (c .before .before .before .before .before .before .before .before .before .before .record-head .ensures .0) (a .number) _ _ _ _ (c .before .before .before .before .before .before .before .before .if1 .left) (c .before .before .before .before .before .before .is-hex .result) (c .before .before .before .before .before .before .is-hex .ensures) (c .before .before .before .before .before .before .before .before .before .before .before .before .before .pre .1) (c .before .before .before .before .before .if2 .left) (c .before .before .before .before .decode-digits .result) (c .before .before .before .before .decode-digits .ensures) (c .before .before .put-decoded .ensures)
 
 pub put-reported-spec : {M : Type 1} → statement M
 put-reported-spec =
@@ -66,6 +66,6 @@ put-reported-spec =
     same-length-2
     returns-2
     decode-digits-requires
-    put-report-requires
+    put-decoded-requires
     same-length-3
     returns-3)
