@@ -19,6 +19,7 @@ TakesByte s x line out at r line-exit out-exit =
     × (line-exit ≡ lineAfter s line x)
     × Lays out at (textAfter s line x) (r .at) out-exit
 
+-- a piece: the state, how many of its bytes were taken, the line buffer, and the text at the start of the lent one
 abbrev pub TakesPiece : State → Text → List ℕ → List ℕ → Taken → List ℕ → List ℕ → Type 0
 TakesPiece s piece line out r line-exit out-exit =
     let e : Run = fed (length out) (begun s line) piece in

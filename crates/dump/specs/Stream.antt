@@ -22,10 +22,11 @@ held long line = take long line ++ replicate (long - length line) 0
 abbrev pub lineSays : ℕ → Text → Text
 lineSays k s = pick (eqb k 1) (pick (same s header) goodHeader badHeader) (lineText k (lineOf s))
 
--- the next line's number; the greatest of a machine word stays
+-- the greatest number of a machine word
 abbrev pub mostLines : ℕ
 mostLines = 18446744073709551615
 
+-- the next line's number; the greatest stays
 abbrev pub following : ℕ → ℕ
 following k = pick (ltb k mostLines) (suc k) k
 
@@ -33,6 +34,7 @@ following k = pick (ltb k mostLines) (suc k) k
 abbrev pub isBadHeader : State → List ℕ → Bool
 isBadHeader s line = eqb (s .number) 1 && not (same (held (s .length) line) header)
 
+-- after an LF: the next line, with nothing read of it
 abbrev pub nextLine : State → List ℕ → State
 nextLine s line = record {
   number = following (s .number);
@@ -44,39 +46,47 @@ nextLine s line = record {
 abbrev pub longer : State → State
 longer s = record { number = s .number; length = pick (leb (s .length) longestLine) (suc (s .length)) (s .length); ended = false }
 
--- ---- After the byte x: the state, the lent line buffer, and the text handed out
+-- ---- After the byte x
 
+-- the state; after a bad header it stays
 unfoldable pub stateAfter : State → List ℕ → ℕ → State
 stateAfter s line x = pick (s .ended) s (pick (eqb x lf) (nextLine s line) (longer s))
 
+-- the lent line buffer
 unfoldable pub lineAfter : State → List ℕ → ℕ → List ℕ
 lineAfter s line x = pick (s .ended) line (pick (eqb x lf) line (set line (s .length) x))
 
+-- the text that is handed out: a line's, once it is whole
 unfoldable pub textAfter : State → List ℕ → ℕ → Text
 textAfter s line x = pick (s .ended) [] (pick (eqb x lf) (lineSays (s .number) (held (s .length) line)) [])
 
--- ---- At the end of the input: a line that lacks its LF, or the missing first one
+-- ---- At the end of the input
 
 -- nothing after the last LF; where the first line is missing, that is the line that ends
 abbrev pub isBetween : State → Bool
 isBetween s = eqb (s .length) 0 && not (eqb (s .number) 1)
 
+-- what a line that lacks its LF gives, or the missing first one
 unfoldable pub textAtEnd : State → List ℕ → Text
 textAtEnd s line =
     pick (s .ended) [] (pick (isBetween s) [] (lineSays (s .number) (held (s .length) line)))
 
--- ---- After several bytes: what a caller keeps between two calls
+-- ---- After several bytes
 
+-- what a caller keeps between two calls
 pub record Kept : Type 0 where
   pub state : State
   pub line : List ℕ
 
+-- a state and a line buffer kept
 abbrev pub keeping : State → List ℕ → Kept
 keeping s line = record { state = s; line = line }
 
+-- after one byte more
 abbrev pub keptAfter : Kept → ℕ → Kept
 keptAfter k x = record { state = stateAfter (k .state) (k .line) x; line = lineAfter (k .state) (k .line) x }
 
+-- after all bytes of a text
 unfoldable pub afterAll : Kept → Text → Kept
 afterAll k [] = k
 afterAll k (x ∷ m) = afterAll (keptAfter k x) m
@@ -90,9 +100,11 @@ pub record Run : Type 0 where
   pub text : Text
   pub taken : ℕ
 
+-- before the first byte of a piece
 abbrev pub begun : State → List ℕ → Run
 begun s line = record { state = s; line = line; text = []; taken = 0 }
 
+-- one byte more of it
 abbrev pub stepped : Run → ℕ → Run
 stepped r x = record {
   state = stateAfter (r .state) (r .line) x;

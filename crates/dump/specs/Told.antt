@@ -10,10 +10,11 @@ use Rattle.frame.specs.declared.decode.Decoded.{Decoded}
 use Rattle.frame.specs.declared.decode.Decoded.the-variants.{Refused, Ended}
 use Rattle.dump.specs.declared.report.Counts.{Counts}
 
--- the digits of the greatest number of a machine word, and the letters of the longest word
+-- the digits of the greatest number of a machine word
 abbrev pub wordDigits : ℕ
 wordDigits = 20
 
+-- the letters of `repaired`, the longest word
 abbrev pub mostLetters : ℕ
 mostLetters = 8
 
@@ -29,30 +30,35 @@ lineRoom = 128
 abbrev pub countsText : Counts → Text
 countsText c = reportLine (decimal (c .passes)) (decimal (c .flips) ∷ decimal (c .rows) ∷ decimal (c .columns) ∷ [])
 
+-- a record's line, from its word and its counts
 abbrev pub wordAndCounts : ℕ → Text → Counts → Text
 wordAndCounts number word c =
     reportLine (decimal number) (word ∷ decimal (c .passes) ∷ decimal (c .flips) ∷ decimal (c .rows) ∷ decimal (c .columns) ∷ [])
 
--- for clean and repaired, for stuck and spent, and for a refusal
+-- clean and repaired have no rows and columns
 abbrev pub mendedCounts : Report → Counts
 mendedCounts r = record { passes = r .passes; flips = r .flips; rows = 0; columns = 0 }
 
+-- stuck and spent have all four
 abbrev pub badCounts : Report → Counts
 badCounts r = record { passes = r .passes; flips = r .flips; rows = r .rows; columns = r .columns }
 
+-- a refusal has its number, and three zeros
 abbrev pub refusedCounts : ℕ → Counts
 refusedCounts k = record { passes = k; flips = 0; rows = 0; columns = 0 }
 
--- the line of a report that ended so
+-- the line of a report, by its ending
 abbrev pub textFor : ℕ → Ending → Report → Text
 textFor number Clean r = wordAndCounts number (ascii "clean") (mendedCounts r)
 textFor number Repaired r = wordAndCounts number (ascii "repaired") (mendedCounts r)
 textFor number Stuck r = wordAndCounts number (ascii "stuck") (badCounts r)
 textFor number Spent r = wordAndCounts number (ascii "spent") (badCounts r)
 
+-- the line of a report
 abbrev pub reportText : ℕ → Report → Text
 reportText number r = textFor number (r .ending) r
 
+-- the line of an answer
 abbrev pub decodedText : ℕ → Decoded → Text
 decodedText number (Refused k) = wordAndCounts number (ascii "refused") (refusedCounts k)
 decodedText number (Ended r) = reportText number r

@@ -23,6 +23,7 @@ greatestFrame = frameBytes longest
 abbrev pub longestLine : ℕ
 longestLine = 3 * (mostDigits + 1) + 2 * greatestFrame
 
+-- what a line can say
 pub data Line : Type 0 where
   badLine : Line
   -- number, n, allowance and frame
@@ -49,11 +50,12 @@ lineOf s =
 
 -- ---- The report
 
--- a line of the report: fields with a tab between two, and an LF after the last
+-- the fields after the first, each behind a tab, and the LF
 abbrev pub afterTabs : List Text → Text
 afterTabs [] = lf ∷ []
 afterTabs (f ∷ fs) = tabulator ∷ (f ++ afterTabs fs)
 
+-- a line of the report, from its first field and the others
 abbrev pub reportLine : Text → List Text → Text
 reportLine f fs = f ++ afterTabs fs
 
@@ -105,11 +107,13 @@ abbrev pub underHeader : List Text → Text
 underHeader [] = badHeader
 underHeader (s ∷ later) = pick (same s header) (goodHeader ++ reportFrom 2 later) badHeader
 
+-- the whole report
 unfoldable pub report : Text → Text
 report input = underHeader (lines input)
 
 -- ---- The report of an input that broke off
 
+-- nothing for nothing: no `bad header` where no line came
 abbrev pub reportSome : Text → Text
 reportSome [] = []
 reportSome (x ∷ s) = report (x ∷ s)

@@ -8,22 +8,25 @@ use lib.Dec.{eqb, leb, ltb}
 use lib.ListN.{length, getD}
 use Rattle.algebra.specs.Tables.{tab}
 
+-- the characters of a text, each a byte
 abbrev pub Text : Type 0
 Text = List ℕ
 
--- a quoted text, and the first character of one
+-- a quoted text
 abbrev pub ascii : String → Text
 ascii none = []
 ascii (c then s) = code c ∷ ascii s
 
+-- a quoted character
 abbrev pub sign : String → ℕ
 sign none = 0
 sign (c then s) = code c
 
--- what ends a line, and what stands between two fields
+-- what ends a line
 abbrev pub lf : ℕ
 lf = sign "\n"
 
+-- what stands between two fields
 abbrev pub tabulator : ℕ
 tabulator = sign "\t"
 
@@ -78,6 +81,7 @@ every p (x ∷ s) = p x && every p s
 abbrev pub isDigit : ℕ → Bool
 isDigit x = leb (sign "0") x && leb x (sign "9")
 
+-- 0 for `0`, 9 for `9`
 abbrev pub digitValue : ℕ → ℕ
 digitValue x = x - sign "0"
 
@@ -95,6 +99,7 @@ unfoldable pub valueFrom : ℕ → Text → ℕ
 valueFrom v [] = v
 valueFrom v (x ∷ s) = valueFrom (v * 10 + digitValue x) s
 
+-- the value of a decimal number
 abbrev pub decimalValue : Text → ℕ
 decimalValue s = valueFrom 0 s
 
@@ -119,6 +124,7 @@ abbrev pub letterOr : Bool → ℕ → ℕ
 letterOr true x = x - sign "A" + 10
 letterOr false x = digitValue x
 
+-- 0 for `0`, 15 for `F`
 abbrev pub hexValue : ℕ → ℕ
 hexValue x = letterOr (leb (sign "A") x) x
 

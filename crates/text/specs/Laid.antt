@@ -1,4 +1,4 @@
--- A text laid into a buffer.
+-- RULES 9: a text laid into a buffer.
 use mathlib.Core.Path.{_≡_}
 use mathlib.Core.List.{List, _++_}
 use Prim.Native.Nat.{ℕ, _+_, _≤_}

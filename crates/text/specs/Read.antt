@@ -1,4 +1,4 @@
--- What the functions that read a line answer, in the code's own types.
+-- RULES 8: what the functions that read a line answer, in the code's own types.
 use mathlib.Core.Bool.{Bool, true, false, _&&_}
 use mathlib.Core.List.{[], _∷_}
 use Prim.Native.Nat.{ℕ, _+_, _*_}
@@ -12,6 +12,7 @@ use Rattle.text.specs.declared.number.Decimal.the-variants.{Value, Bad}
 use Rattle.text.specs.declared.record.Field.{Field}
 use Rattle.text.specs.declared.record.Head.{Head}
 
+-- a field as a number, or none
 abbrev pub decimalOf : Text → Decimal
 decimalOf s = pick (isDecimal s) (Value (decimalValue s)) Bad
 
@@ -25,15 +26,18 @@ abbrev pub closedNumber : Text → ℕ → Bool
 closedNumber s from =
     let rest : Text = drop from s in let i : ℕ = indexOf tabulator rest in ltb i (length rest) && isDecimal (take i rest)
 
+-- where there is no such number
 abbrev pub badField : Field
 badField = record { «is_good» = false; value = 0; after = 0 }
 
+-- the number that starts at a place, and the place after its tab
 unfoldable pub fieldOf : Text → ℕ → Field
 fieldOf s from =
     let rest : Text = drop from s in
     let i : ℕ = indexOf tabulator rest in
     pick (closedNumber s from) (record { «is_good» = true; value = decimalValue (take i rest); after = from + i + 1 }) badField
 
+-- where a field is bad
 abbrev pub badHead : Head
 badHead = record { «is_good» = false; number = 0; n = 0; allowance = 0; frame = 0 }
 

@@ -21,6 +21,7 @@ abbrev pub joinedLines : List Text → Text
 joinedLines [] = []
 joinedLines (l ∷ ls) = l ++ ascii "\n" ++ joinedLines ls
 
+-- what is promised of a text's lines
 pub record Lines : Type 0 where
   -- after the last LF there is no line, if nothing follows it
   pub all-closed : (ls : List Text) → All NoLF ls → lines (joinedLines ls) ≡ ls

@@ -23,6 +23,7 @@ use Rattle.rules.proofs.Laws.TextLaws.{all-so, every-all, all-every, Di
 
 -- ---- The statement
 
+-- the hex digit of a number below 16
 abbrev pub hexDigit : ℕ → ℕ
 hexDigit h = getD (ascii "0123456789ABCDEF") h 0
 
@@ -36,6 +37,7 @@ abbrev pub recordLine : ℕ → ℕ → ℕ → List ℕ → Text
 recordLine number n allowance frame =
     decimal number ++ ascii "\t" ++ decimal n ++ ascii "\t" ++ decimal allowance ++ ascii "\t" ++ hexText frame
 
+-- each entry is a byte
 abbrev pub AreBytes : List ℕ → Type 0
 AreBytes frame = AllN (λ x. x < 256) frame
 
@@ -74,9 +76,11 @@ lineTable =
     ∷ ("0 18 2 00", badLine)
     ∷ []
 
+-- each line of the table says what stands beside it
 abbrev pub LinesShown : Type 0
 LinesShown = map (λ item. lineOf (ascii (item .0))) lineTable ≡ map (λ item. item .1) lineTable
 
+-- what is promised of a dump's lines
 pub record Records : Type 0 where
   pub examples : LinesShown
   pub read-back :
@@ -123,6 +127,7 @@ pub record Decimals : Type 0 where
   -- nothing else is read as a number
   pub only-so : (s : Text) → isDecimal s ≡ true → s ≡ decimal (decimalValue s)
 
+-- what a frame in hex is
 pub record Hex : Type 0 where
   pub read-back : (frame : List ℕ) → AreBytes frame → hexBytes (hexText frame) ≡ frame
   pub only-so : (s : Text) → isHex s ≡ true → s ≡ hexText (hexBytes s)

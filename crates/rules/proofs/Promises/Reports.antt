@@ -69,6 +69,7 @@ abbrev pub RefusedBy : Decoded → Type 0
 RefusedBy (refused r) = (r ≡ 1) ⊎ ((r ≡ 2) ⊎ (r ≡ 4))
 RefusedBy (ended e p f r c) = Unit {0}
 
+-- what is promised of the report
 pub record Reports : Type 0 where
   pub example : Example
   -- under its own first line the report has what each line gives; the line at index i after the header is line i + 2
