@@ -20,5 +20,6 @@ pub mod Limit
 pub mod Bench
 -- The dump and its report
 pub mod Records
+pub mod LongestLine
 pub mod Lines
 pub mod Reports

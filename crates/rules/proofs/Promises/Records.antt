@@ -8,13 +8,13 @@ use Prim.Native.String.{String}
 use Prim.Native.Nat.{ℕ, suc, _+_, _*_, _-_, _/_, _%_, _^_, _≤_, _<_}
 use native.Mathlib.Decide.{decLt, ℕ-discrete}
 use native.Mathlib.Omega.{arith}
-use lib.Dec.{eqb, leb, ltb, leb→le}
-use lib.ListN.{length, getD, length-append}
+use lib.Dec.{eqb, leb, ltb}
+use lib.ListN.{length, getD}
 use borrow.Author.Tests.{eqb-true, eqb-false, eq-eqb, ne-eqb, leb-true, le-leb, ltb-true, not-false, not-true}
 use Rattle.algebra.specs.Sums.{AllN}
 use Rattle.algebra.specs.Tables.{tab, tabFrom, ones}
 use Rattle.algebra.proofs.TableLaws.{count-zero}
-use Rattle.rules.specs.Numbers.{pick, frameBytes}
+use Rattle.rules.specs.Numbers.{pick}
 use Rattle.rules.specs.Text.{Text, ascii, tabulator, fields, every, isDigit, isDecimal, decimalValue, valueFrom, decimal, isHexDigit, hexValue, isHex, hexBytes}
 use Rattle.rules.specs.Dump.{longestLine, Line, badLine, aRecord, fieldAt, isRecord, lineOf}
 use Rattle.rules.proofs.Laws.OneOfLaws.{and-both}
@@ -98,20 +98,6 @@ pub record Records : Type 0 where
       → RecordFits number n allowance frame → RecordFits number′ n′ allowance′ frame′
       → recordLine number n allowance frame ≡ recordLine number′ n′ allowance′ frame′
       → (number ≡ number′) × (n ≡ n′) × (allowance ≡ allowance′) × (frame ≡ frame′)
-
--- The greatest record just fits: numbers of nine digits and a frame of n = 256
-pub record LongestLine : Type 0 where
-  pub all-fit :
-      (number n allowance : ℕ) (frame : List ℕ) → number < 10 ^ 9 → n < 10 ^ 9 → allowance < 10 ^ 9 → length frame ≤ frameBytes 256
-      → length (recordLine number n allowance frame) ≤ longestLine
-  pub greatest :
-      (frame : List ℕ) → length frame ≡ frameBytes 256
-      → length (recordLine 999999999 999999999 999999999 frame) ≡ longestLine
-  -- one byte more is too much
-  pub too-long :
-      (frame : List ℕ) → length frame ≡ suc (frameBytes 256)
-      → lineOf (recordLine 999999999 999999999 999999999 frame) ≡ badLine
-  pub characters : longestLine ≡ 16414
 
 -- what a decimal is
 pub record Decimals : Type 0 where
@@ -466,66 +452,6 @@ records = record {
         → (l : Line) → WrittenAs s l → l ≡ badLine
     go s none badLine h = refl
     go s none (aRecord number n allowance frame) h = absurd (none number n allowance frame (h .1) (h .0))
-
--- ---- the longest line
-
-hex-length : (frame : List ℕ) → length (hexText frame) ≡ 2 * length frame
-unfolding hexText
-hex-length [] = refl
-hex-length (x ∷ frame) = omega (arith, hex-length frame)
-
-line-length :
-    (number n allowance : ℕ) (frame : List ℕ)
-    → length (recordLine number n allowance frame)
-    ≡ length (decimal number) + length (decimal n) + length (decimal allowance) + 3 + 2 * length frame
-line-length number n allowance frame =
-    let a : Text = decimal number in
-    let b : Text = decimal n in
-    let c : Text = decimal allowance in
-    let d : Text = hexText frame in
-    omega (
-      arith,
-      ap length (moved a b c d),
-      length-append a (tabulator ∷ (b ++ tabulator ∷ (c ++ tabulator ∷ d))),
-      length-append b (tabulator ∷ (c ++ tabulator ∷ d)),
-      length-append c (tabulator ∷ d),
-      hex-length frame,
-    )
-
--- nine nines are nine digits
-nine-nines : length (decimal 999999999) ≡ 9
-nine-nines =
-    let least = decimal-long 8 999999999 (leb→le (10 ^ 8) 999999999 tt) in
-    let most = decimal-short 999999999 9 (leb→le 1000000000 (10 ^ 9) tt) (omega arith) in
-    omega (arith, least, most)
-
-nines-length : (frame : List ℕ) → length (recordLine 999999999 999999999 999999999 frame) ≡ 30 + 2 * length frame
-nines-length frame = omega (arith, line-length 999999999 999999999 999999999 frame, nine-nines)
-
-pub longest-line : LongestLine
-longest-line = record {
-  all-fit = λ number n allowance frame a b c f.
-      omega (
-        arith,
-        line-length number n allowance frame,
-        decimal-short number 9 a (omega arith),
-        decimal-short n 9 b (omega arith),
-        decimal-short allowance 9 c (omega arith),
-        f,
-      );
-  greatest = λ frame f. omega (arith, nines-length frame, f);
-  too-long = λ frame f.
-      go frame f (recordLine 999999999 999999999 999999999 frame) refl (lineOf (recordLine 999999999 999999999 999999999 frame))
-      (line-only (recordLine 999999999 999999999 999999999 frame));
-  characters = refl;
-}
-  where
-    go :
-        (frame : List ℕ) → length frame ≡ suc (frameBytes 256)
-        → (s : Text) → s ≡ recordLine 999999999 999999999 999999999 frame → (l : Line) → WrittenAs s l → l ≡ badLine
-    go frame f s is badLine h = refl
-    go frame f s is (aRecord number n allowance other) h =
-        absurd (omega (arith, nines-length frame, f, ap length is, ap length (h .0), h .1 .line-short))
 
 pub decimals : Decimals
 decimals = record {
