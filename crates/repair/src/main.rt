@@ -106,6 +106,7 @@ fn report_last(state: State, line: &[u8; LONGEST_LINE]) -> bool {
     io::write_all(STDOUT_FILENO, &last[0..n])
 }
 
+// What failed: writing, or else reading.
 fn complain(written: bool) {
     if written {
         io::write_all(
