@@ -15,8 +15,8 @@
  * frame from a good one: where a wrong frame does harm, keep the received one, and keep a checksum of the data in the data.
  *
  * What a caller owes:
- *  - Each pointer is not NULL, even where its length is 0, and is good for its length: to read for the input, to write for the
- *    output. Bytes need no alignment. The output's bytes need not be set before.
+ *  - Each pointer is good for its length: to read for the input, to write for the output. Where the length is 0 it may be NULL;
+ *    the call is refused then, since no n has that length. Bytes need no alignment. The output's bytes need not be set before.
  *  - Input and output do not overlap, and no other thread writes the input or touches the output during the call.
  * The functions keep no state, allocate nothing and do no input or output, so any number of threads may call them at once.
  * They take less than 1 KiB of stack.
@@ -26,6 +26,15 @@
 
 #include <stddef.h>
 #include <stdint.h>
+
+/* Says of a buffer that it does not overlap another: `restrict` in C, the compilers' own word for it in C++, else nothing. */
+#if defined __STDC_VERSION__ && __STDC_VERSION__ >= 199901L
+#define GAZENOHYRI_RESTRICT restrict
+#elif defined __GNUC__ || defined _MSC_VER
+#define GAZENOHYRI_RESTRICT __restrict
+#else
+#define GAZENOHYRI_RESTRICT
+#endif
 
 #ifdef __cplusplus
 extern "C" {
@@ -67,20 +76,22 @@ static inline size_t gazenohyri_data_bytes(size_t n)
 
 /* Writes to `frame` the one frame of codewords that has these data, spare bits zero. Answers 0, 1, 2, 3 or 5.
  * data_len: gazenohyri_data_bytes(n). frame_len: gazenohyri_frame_bytes(n). */
-uint32_t gazenohyri_encode(size_t n, const uint8_t *data, size_t data_len, uint8_t *frame, size_t frame_len);
+uint32_t gazenohyri_encode(size_t n, const uint8_t *GAZENOHYRI_RESTRICT data, size_t data_len,
+                           uint8_t *GAZENOHYRI_RESTRICT frame, size_t frame_len);
 
 /* Repairs a received frame by passes over its rows, its columns, its rows and so on, `allowance` of them at most; 2 are enough
  * for all that is promised above. Received spare bits are not looked at. Take the answer apart with the five functions below.
  * Number 0: `frame` is a frame of codewords, spare bits zero. It was clean if it took 0 passes, and was repaired otherwise.
  * Numbers 7 and 8: `frame` is what was received, byte for byte, spare bits too: no half-mended frame is handed out.
  * Numbers 1 to 4: refused, `frame` is untouched. received_len and frame_len: gazenohyri_frame_bytes(n). */
-uint64_t gazenohyri_decode(size_t n, size_t allowance, const uint8_t *received, size_t received_len, uint8_t *frame,
-                           size_t frame_len);
+uint64_t gazenohyri_decode(size_t n, size_t allowance, const uint8_t *GAZENOHYRI_RESTRICT received, size_t received_len,
+                           uint8_t *GAZENOHYRI_RESTRICT frame, size_t frame_len);
 
 /* Writes to `data` the data of a frame, spare bits zero. It mends nothing: with one wrong bit in the frame the answer is 6 and
  * `data` is untouched. The frame's spare bits are not looked at. Answers 0, 1, 2, 3 or 6.
  * frame_len: gazenohyri_frame_bytes(n). data_len: gazenohyri_data_bytes(n). */
-uint32_t gazenohyri_read(size_t n, const uint8_t *frame, size_t frame_len, uint8_t *data, size_t data_len);
+uint32_t gazenohyri_read(size_t n, const uint8_t *GAZENOHYRI_RESTRICT frame, size_t frame_len,
+                         uint8_t *GAZENOHYRI_RESTRICT data, size_t data_len);
 
 /* Of decode's answer: the number. */
 static inline uint32_t gazenohyri_number(uint64_t answer)

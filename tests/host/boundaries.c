@@ -13,6 +13,7 @@ static const Group groups[] = {
     {"the header's constants, sizes and fields", header_values},
     {"encode and read: every n and length at a boundary, reasons together", encode_and_read_refuse},
     {"decode: every n, length and allowance at a boundary, reasons together", decode_refuses},
+    {"NULL with length 0: lent to each function, as input and as output", null_was_lent},
     {"encode: each spare bit of the data alone", every_spare_bit_of_data},
     {"the bench items", bench_items},
     {"spare bits of a frame: not looked at, zero after success, kept by stuck and spent", spare_bits_of_frames},

@@ -13,17 +13,20 @@
 
 enum { AROUND = 0x5C }; /* what the pages hold beside a buffer */
 
-/* A buffer: on the heap just its bytes, else in a row of pages with a guard page on either side. */
+/* A buffer: on the heap just its bytes, and NULL where it has none; else in a row of pages with a guard page on either side. */
 typedef struct {
     uint8_t *pages;
     uint8_t *bytes;
     size_t length;
 } Lent;
 
+typedef enum { ENCODE, DECODE, READ, FUNCTIONS } Function;
+
 static Lent input, output;
 static size_t pages_length;
 static Placement placement;
 static bool untouchable;
+static unsigned long null_inputs[FUNCTIONS], null_outputs[FUNCTIONS];
 
 static void stop(const char *why)
 {
@@ -74,14 +77,15 @@ static void lend(Lent *buffer, const uint8_t *bytes, size_t length)
 {
     buffer->length = length;
     if (placement == ON_THE_HEAP) {
-        buffer->bytes = (uint8_t *)malloc(length > 0 ? length : 1);
-        if (buffer->bytes == NULL)
+        buffer->bytes = length > 0 ? (uint8_t *)malloc(length) : NULL;
+        if (length > 0 && buffer->bytes == NULL)
             stop("no memory");
     } else {
         memset(buffer->pages, AROUND, pages_length);
         buffer->bytes = buffer->pages + (placement == ENDS_AT_GUARD_PAGE ? pages_length - length : 0);
     }
-    memcpy(buffer->bytes, bytes, length);
+    if (length > 0)
+        memcpy(buffer->bytes, bytes, length);
 }
 
 static bool is_around(const uint8_t *from, const uint8_t *to)
@@ -109,10 +113,12 @@ static void protect(const Lent *buffer, int protection)
         stop("pages can't be protected");
 }
 
-static void before(const uint8_t *in, size_t in_len, const uint8_t *out, size_t out_len)
+static void before(Function function, const uint8_t *in, size_t in_len, const uint8_t *out, size_t out_len)
 {
     lend(&input, in, in_len);
     lend(&output, out, out_len);
+    null_inputs[function] += input.bytes == NULL;
+    null_outputs[function] += output.bytes == NULL;
     protect(&input, PROT_READ);
     if (untouchable)
         protect(&output, PROT_READ);
@@ -123,22 +129,23 @@ static void after(const uint8_t *in, uint8_t *out)
     protect(&input, PROT_READ | PROT_WRITE);
     protect(&output, PROT_READ | PROT_WRITE);
     untouchable = false;
-    EXPECT(memcmp(input.bytes, in, input.length) == 0);
-    memcpy(out, output.bytes, output.length);
+    EXPECT(input.length == 0 || memcmp(input.bytes, in, input.length) == 0);
+    if (output.length > 0)
+        memcpy(out, output.bytes, output.length);
     take_back(&input);
     take_back(&output);
 }
 
 static const char *where(void)
 {
-    static const char *const names[] = {"ends at a guard page", "begins after a guard page", "on the heap"};
+    static const char *const names[] = {"ends at a guard page", "begins after a guard page", "on the heap, NULL where it is empty"};
     return names[placement];
 }
 
 uint32_t call_encode(size_t n, const uint8_t *data, size_t data_len, uint8_t *frame, size_t frame_len)
 {
     note_call("encode(n = %zu, data_len = %zu, frame_len = %zu), each buffer %s", n, data_len, frame_len, where());
-    before(data, data_len, frame, frame_len);
+    before(ENCODE, data, data_len, frame, frame_len);
     uint32_t number = gazenohyri_encode(n, input.bytes, input.length, output.bytes, output.length);
     after(data, frame);
     return number;
@@ -149,7 +156,7 @@ uint64_t call_decode(size_t n, size_t allowance, const uint8_t *received, size_t
 {
     note_call("decode(n = %zu, allowance = %zu, received_len = %zu, frame_len = %zu), each buffer %s", n, allowance,
               received_len, frame_len, where());
-    before(received, received_len, frame, frame_len);
+    before(DECODE, received, received_len, frame, frame_len);
     uint64_t answer = gazenohyri_decode(n, allowance, input.bytes, input.length, output.bytes, output.length);
     after(received, frame);
     return answer;
@@ -158,10 +165,18 @@ uint64_t call_decode(size_t n, size_t allowance, const uint8_t *received, size_t
 uint32_t call_read(size_t n, const uint8_t *frame, size_t frame_len, uint8_t *data, size_t data_len)
 {
     note_call("read(n = %zu, frame_len = %zu, data_len = %zu), each buffer %s", n, frame_len, data_len, where());
-    before(frame, frame_len, data, data_len);
+    before(READ, frame, frame_len, data, data_len);
     uint32_t number = gazenohyri_read(n, input.bytes, input.length, output.bytes, output.length);
     after(frame, data);
     return number;
+}
+
+void null_was_lent(void)
+{
+    for (int function = 0; function < FUNCTIONS; function++) {
+        note_call("%lu inputs and %lu outputs that were NULL", null_inputs[function], null_outputs[function]);
+        EXPECT(placement != ON_THE_HEAP || (null_inputs[function] > 0 && null_outputs[function] > 0));
+    }
 }
 
 void expect_decode(size_t n, size_t allowance, const uint8_t *received, uint64_t answer, const uint8_t *written,

@@ -10,6 +10,9 @@ void encode_and_read_refuse(void);
 void decode_refuses(void);
 void every_spare_bit_of_data(void);
 
+/* calls.c */
+void null_was_lent(void);
+
 /* frames.c */
 void bench_items(void);
 void spare_bits_of_frames(void);
