@@ -46,6 +46,17 @@ pub fn report_with(code: &Code, input: &[u8]) -> Vec<u8> {
     report.into_bytes()
 }
 
+/// The report on a dump of which no more than `input` could be read, made
+/// likewise: that on the lines which have their LF. How another would have
+/// gone on is not known, and nothing is said of it; nor is anything of a first
+/// line that has none.
+pub fn report_of_part(code: &Code, input: &[u8]) -> Vec<u8> {
+    match input.iter().rposition(|&byte| byte == b'\n') {
+        Some(last) => report_with(code, &input[..=last]),
+        None => Vec::new(),
+    }
+}
+
 /// The lines of `input`, each without its LF.
 fn lines(input: &[u8]) -> Vec<&[u8]> {
     let mut lines: Vec<&[u8]> = input.split(|&byte| byte == b'\n').collect();

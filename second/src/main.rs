@@ -3,6 +3,8 @@
 
 #![forbid(unsafe_code)]
 
+use second::dump::{report_of_part, report_with};
+use second::Code;
 use std::io::{self, Read, Write};
 use std::process::ExitCode;
 
@@ -17,11 +19,15 @@ fn main() -> ExitCode {
 }
 
 fn run() -> Result<(), String> {
-    let mut input = Vec::new();
+    let (mut input, code) = (Vec::new(), Code::new());
     let read = io::stdin().lock().read_to_end(&mut input);
-    read.map_err(|error| format!("cannot read the dump: {}", error))?;
-    let report = second::dump::report(&input);
-    write(&report).map_err(|error| format!("cannot write the report: {}", error))
+    let report = match read {
+        Ok(_) => report_with(&code, &input),
+        Err(_) => report_of_part(&code, &input),
+    };
+    write(&report).map_err(|error| format!("cannot write the report: {}", error))?;
+    let whole = read.map_err(|error| format!("cannot read the dump: {}", error));
+    whole.map(|_| ())
 }
 
 fn write(report: &[u8]) -> io::Result<()> {

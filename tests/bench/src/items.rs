@@ -1,12 +1,12 @@
 //! What is timed.
 
-use compare::bits::{clear_spare_bits, square_bytes, CHECK_BITS};
 use compare::case::{Case, Entry};
-use compare::damage::{lose_row, wrong_bits, Loss};
 use compare::promise::Promise;
-use compare::random::Random;
-use compare::written::{frame_of, Written};
 use second::Code;
+use shared::bits::square_bytes;
+use shared::damage::{lose_row, wrong_bits, Loss};
+use shared::random::Random;
+use shared::written::full_frame;
 
 pub struct Item {
     pub name: &'static str,
@@ -26,11 +26,7 @@ pub const ITEMS: [Item; 5] = [
             })
         },
     },
-    Item {
-        name: "decode, n = 195, clean",
-        seed: 2,
-        make: |code, random| decode(code, random, 195, |_, _| {}),
-    },
+    Item { name: "decode, n = 195, clean", seed: 2, make: |code, random| decode(code, random, 195, |_, _| {}) },
     Item {
         name: "decode, n = 256, two rows lost",
         seed: 3,
@@ -46,7 +42,7 @@ pub const ITEMS: [Item; 5] = [
         name: "encode, n = 195",
         seed: 4,
         make: |code, random| {
-            let written = random_frame(code, random, 195);
+            let written = full_frame(code, random, 195);
             let case = Case::new(random, Entry::Encode, 195, written.data, square_bytes(195));
             let promise = Promise::encoded(&case);
             (case, promise)
@@ -56,7 +52,7 @@ pub const ITEMS: [Item; 5] = [
         name: "read, n = 195",
         seed: 5,
         make: |code, random| {
-            let written = random_frame(code, random, 195);
+            let written = full_frame(code, random, 195);
             let bytes = written.data.len();
             let case = Case::new(random, Entry::Read, 195, written.frame, bytes);
             (case, Promise::Exactly(0, written.data))
@@ -64,20 +60,8 @@ pub const ITEMS: [Item; 5] = [
     },
 ];
 
-fn random_frame(code: &Code, random: &mut Random, n: usize) -> Written {
-    let k = n - CHECK_BITS;
-    let mut data = random.bytes(square_bytes(k));
-    clear_spare_bits(k, &mut data);
-    frame_of(code, n, data)
-}
-
-fn decode(
-    code: &Code,
-    random: &mut Random,
-    n: usize,
-    damage: impl Fn(&mut Random, &mut [u8]),
-) -> (Case, Promise) {
-    let written = random_frame(code, random, n).frame;
+fn decode(code: &Code, random: &mut Random, n: usize, damage: impl Fn(&mut Random, &mut [u8])) -> (Case, Promise) {
+    let written = full_frame(code, random, n).frame;
     let mut received = written.clone();
     damage(random, &mut received);
     let case = Case::new(random, Entry::Decode, n, received, square_bytes(n)).with(8);

@@ -1,11 +1,11 @@
-//! Prints how long the proved engine and the second program take, and the ratio.
+//! Prints how long the proved engine and the second program take, and the ratio. A check passes where the answers are right.
 
 mod items;
 mod timing;
 
 use items::ITEMS;
 use second::Code;
-use std::process::exit;
+use shared::score::Score;
 use std::{env, fs};
 use timing::time;
 
@@ -13,47 +13,26 @@ const WARM_UP: usize = 30;
 const FRAMES: usize = 301;
 
 fn main() {
-    let code = Code::new();
-    let columns = ["median us", "min..max", "median us", "min..max", "ratio"];
-    println!(
-        "{:<32} {:>29}  {:>29}",
-        "", "proved engine", "second program"
-    );
-    println!("{}", line("", columns.map(String::from)));
+    let (code, mut score) = (Code::new(), Score::default());
+    println!("{:<73} {:>29}  {:>29}", "", "proved engine", "second program");
+    println!("{:<73} {}", "", columns(["median us", "min..max", "median us", "min..max", "ratio"].map(String::from)));
     for item in &ITEMS {
         match time(&code, item, WARM_UP, FRAMES) {
             Some((proved, second)) => {
-                let ratio = proved.median() / second.median();
-                let columns = [
-                    format!("{:.1}", proved.median()),
-                    proved.span(),
-                    format!("{:.1}", second.median()),
-                    second.span(),
-                    format!("{:.1}", ratio),
-                ];
-                println!("{}", line(item.name, columns));
+                let medians = [proved.median(), second.median()];
+                let [ours, theirs, ratio] =
+                    [medians[0], medians[1], medians[0] / medians[1]].map(|value| format!("{:.1}", value));
+                score.count(item.name, "", &columns([ours, proved.span(), theirs, second.span(), ratio]));
             }
-            None => {
-                println!("{}: an answer is wrong", item.name);
-                println!("0 passed, 1 failed");
-                exit(1);
-            }
+            None => score.count(item.name, "an answer is wrong", ""),
         }
     }
-    let (processor, compiler) = (processor(), env!("COMPILER"));
-    println!(
-        "{}, {}, {} frames for each line",
-        processor, compiler, FRAMES
-    );
-    println!("0 passed, 0 failed");
+    println!("{}, {}, {} frames for each line", processor(), env!("COMPILER"), FRAMES);
+    score.end()
 }
 
-fn line(name: &str, columns: [String; 5]) -> String {
-    let [a, b, c, d, ratio] = columns;
-    format!(
-        "{:<32} {:>10} {:>18}  {:>10} {:>18} {:>7}",
-        name, a, b, c, d, ratio
-    )
+fn columns([a, b, c, d, ratio]: [String; 5]) -> String {
+    format!("{:>10} {:>18}  {:>10} {:>18} {:>7}", a, b, c, d, ratio)
 }
 
 /// The name that the system has for the processor, or what else it knows of it.

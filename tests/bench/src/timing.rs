@@ -1,10 +1,8 @@
 //! The time of single calls.
 
 use crate::items::Item;
-use compare::case::{Case, Entry};
-use compare::proved;
-use compare::random::Random;
 use second::Code;
+use shared::random::Random;
 use std::time::Instant;
 
 /// The times of one side, in microseconds, in ascending order.
@@ -37,8 +35,8 @@ pub fn time(code: &Code, item: &Item, warm_up: usize, frames: usize) -> Option<(
             return None;
         }
         let (mut a, mut b) = (case.output.clone(), case.output.clone());
-        let mut of_proved = || microseconds(|| call_proved(&case, &mut a));
-        let mut of_second = || microseconds(|| call_second(code, &case, &mut b));
+        let mut of_proved = || microseconds(|| case.call_proved(&case.input, &mut a));
+        let mut of_second = || microseconds(|| case.call_second(code, &mut b));
         let (proved_time, second_time) = if index % 2 == 0 {
             let first = of_proved();
             (first, of_second())
@@ -58,29 +56,8 @@ pub fn time(code: &Code, item: &Item, warm_up: usize, frames: usize) -> Option<(
     Some((Times::of(proved), Times::of(second)))
 }
 
-fn microseconds(call: impl FnOnce()) -> f64 {
+fn microseconds(call: impl FnOnce() -> u64) -> f64 {
     let start = Instant::now();
     call();
     start.elapsed().as_secs_f64() * 1e6
-}
-
-fn call_proved(case: &Case, output: &mut [u8]) {
-    let (n, input) = (case.n, &case.input);
-    match case.entry {
-        Entry::Decode => proved::decode(n, case.argument, input, output),
-        Entry::Encode => proved::encode(n, input, output).into(),
-        Entry::Read => proved::read(n, input, output).into(),
-        Entry::Word | Entry::Row => unreachable!("no item is a word or a row"),
-    };
-}
-
-fn call_second(code: &Code, case: &Case, output: &mut [u8]) {
-    let (n, input) = (case.n, &case.input);
-    let done = match case.entry {
-        Entry::Decode => code.decode(n, case.argument, input, output).is_ok(),
-        Entry::Encode => code.encode(n, input, output).is_ok(),
-        Entry::Read => code.read(n, input, output).is_ok(),
-        Entry::Word | Entry::Row => unreachable!("no item is a word or a row"),
-    };
-    assert!(done);
 }

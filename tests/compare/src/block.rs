@@ -1,17 +1,18 @@
-//! The work is done in blocks, one for each kind of check, round and word length. A block has its
-//! own seed, so that the cases are the same on any number of threads.
+//! The work is done in blocks, one for each kind of check, round and word length. A block has its own seed, so that the cases
+//! are the same on any number of threads.
 
-use crate::bits::{LONGEST, SHORTEST};
-use crate::case::Case;
-use crate::division::{is_codeword, is_frame_of};
+use crate::case::{Case, Entry, Said};
+use crate::found::Found;
 use crate::promise::Promise;
-use crate::random::Random;
-use crate::tally::{keep_smallest, Found, Seen, Tally};
-use crate::written::{self, Written};
 use second::Code;
+use shared::bits::{LONGEST, SHORTEST};
+use shared::division::{is_codeword, is_frame_of};
+use shared::random::Random;
+use shared::run::{on_all, Scale};
+use shared::written::{self, Written};
 use std::ops::RangeInclusive;
-use std::sync::atomic::{AtomicUsize, Ordering};
-use std::thread;
+
+pub type Tally = shared::tally::Tally<Found>;
 
 /// One kind of check. It passes or fails as a whole.
 pub struct Kind {
@@ -22,25 +23,30 @@ pub struct Kind {
     pub least: u64,
     /// Every n of these must be met.
     pub lengths: RangeInclusive<usize>,
-    /// Each of these must be met.
-    pub must_see: &'static [Seen],
+    /// Each answer of these must be met.
+    pub answers: &'static str,
     pub make: fn(&mut Block),
 }
 
-#[derive(Clone, Copy)]
-pub struct Scale {
-    pub seed: u64,
-    pub rounds: u64,
-    /// Few cases at few lengths: too few for each kind to meet all that it should.
-    pub quick: bool,
-}
+impl Kind {
+    pub fn must_see(&self) -> impl Iterator<Item = &'static str> {
+        self.answers.split_whitespace()
+    }
 
-impl Scale {
-    fn lengths(&self) -> Vec<usize> {
+    /// Makes and checks all cases.
+    pub fn run(&self, code: &Code, scale: Scale) -> Tally {
         // The long words first, since they take longest.
         let all = (SHORTEST..=LONGEST).rev();
-        all.filter(|n| !self.quick || *n < 64 || n % 32 < 2)
-            .collect()
+        let lengths: Vec<usize> = all.filter(|n| !scale.quick || *n < 64 || n % 32 < 2).collect();
+        on_all(lengths.len() * scale.rounds, |index, tally| {
+            let (n, round) = (lengths[index % lengths.len()], index / lengths.len());
+            let random = scale.random(self.name, &[round as u64, n as u64]);
+            let count = if scale.quick { (self.count + 15) / 16 } else { self.count };
+            let mut block = Block { code, random, n, count, quick: scale.quick, tally: Tally::default() };
+            (self.make)(&mut block);
+            tally.add(block.tally);
+            true
+        })
     }
 }
 
@@ -50,7 +56,7 @@ pub struct Block<'a> {
     pub n: usize,
     pub count: usize,
     pub quick: bool,
-    pub tally: Tally,
+    tally: Tally,
 }
 
 impl Block<'_> {
@@ -69,92 +75,97 @@ impl Block<'_> {
     /// The codeword of n bits that begins with `data`, made and divided likewise.
     pub fn write_word(&mut self, n: usize, data: Vec<u8>) -> Vec<u8> {
         let word = written::codeword_of(self.code, n, data);
-        if !is_codeword(n, &word) {
-            self.tally.misjudged += 1;
-        }
+        self.judge(is_codeword(n, &word));
         word
     }
 
     /// By long division, `frame` must be the one of `data`, or (not expected) must not be.
     pub fn divide(&mut self, data: &[u8], frame: &[u8], expected: bool) {
-        if is_frame_of(self.n, data, frame) != expected {
-            self.tally.misjudged += 1;
+        self.judge(is_frame_of(self.n, data, frame) == expected);
+    }
+
+    fn judge(&mut self, right: bool) {
+        if !right {
+            self.tally.count("judged otherwise by long division");
         }
+    }
+
+    pub fn case(&mut self, entry: Entry, input: Vec<u8>, output_len: usize) -> Case {
+        Case::new(&mut self.random, entry, self.n, input, output_len)
     }
 
     /// Puts a case to both sides. `written` is what was there before the damage, or empty.
     pub fn check(&mut self, case: Case, promise: Promise, written: &[u8]) {
+        const DIFFERENCE: [&str; 5] = [
+            "smallest difference of Decode",
+            "smallest difference of Word",
+            "smallest difference of Encode",
+            "smallest difference of Read",
+            "smallest difference of Row",
+        ];
         let (proved, second) = (case.proved(), case.second(self.code));
-        self.tally.note(&case, &proved, written);
+        self.note(&case, &proved, written);
         if !matches!(promise, Promise::None) {
-            self.tally.promises += 1;
+            self.tally.count("promises");
         }
         let differ = proved != second;
         let broken = !promise.kept(&proved) || !promise.kept(&second);
-        if !differ && !broken {
-            return;
-        }
-        let found = Some(Found {
-            case,
-            written: written.to_vec(),
-            proved,
-            second,
-        });
+        let entry = case.entry as usize;
+        let found =
+            || Found { case: case.clone(), written: written.to_vec(), proved: proved.clone(), second: second.clone() };
         if differ {
-            self.tally.differences += 1;
-            keep_smallest(&mut self.tally.smallest_difference, found.clone());
+            self.tally.count("differences");
+            self.tally.keep(DIFFERENCE[entry], found());
         }
         if broken {
-            self.tally.broken += 1;
-            keep_smallest(&mut self.tally.smallest_broken, found);
+            self.tally.count("promises not kept");
+            self.tally.keep("smallest promise not kept", found());
         }
     }
-}
 
-/// Makes and checks all cases of a kind, on all processors.
-pub fn run_kind(code: &Code, kind: &Kind, scale: Scale) -> Tally {
-    let lengths = scale.lengths();
-    let blocks = lengths.len() * scale.rounds as usize;
-    let next = AtomicUsize::new(0);
-    let work = || {
-        let mut tally = Tally::default();
-        loop {
-            let index = next.fetch_add(1, Ordering::Relaxed);
-            if index >= blocks {
-                return tally;
-            }
-            let (n, round) = (lengths[index % lengths.len()], index / lengths.len());
-            tally.add(run_block(code, kind, scale, n, round));
+    /// Counts a case by the answer it got.
+    fn note(&mut self, case: &Case, said: &Said, written: &[u8]) {
+        const REFUSED: [&str; 7] = ["", "Number1", "Number2", "Number3", "Number4", "Number5", "Number6"];
+        const CHANGED: [&str; 3] = ["Codeword", "OnePlace", "TwoPlaces"];
+        let tally = &mut self.tally;
+        tally.count("cases");
+        if case.n <= LONGEST {
+            tally.meet("n", case.n);
         }
-    };
-    let threads = thread::available_parallelism().map_or(2, |count| count.get());
-    let mut total = Tally::default();
-    thread::scope(|scope| {
-        let running: Vec<_> = (0..threads).map(|_| scope.spawn(work)).collect();
-        for thread in running {
-            total.add(thread.join().expect("a block of cases did not end"));
-        }
-    });
-    total
-}
+        tally.count(match (said.number(), case.entry) {
+            (_, Entry::Row) if said.result == 0 => "NoRow",
+            (_, Entry::Row) => "Row",
+            (0, Entry::Encode) => "Encoded",
+            (0, Entry::Read) => "Read",
+            (0, Entry::Word) => CHANGED[said.passes().min(2) as usize],
+            (number @ 1..=6, _) => REFUSED[number as usize],
+            (9, _) => "NoCodeword",
+            _ => return self.note_frame(case, said, written),
+        });
+    }
 
-fn run_block(code: &Code, kind: &Kind, scale: Scale, n: usize, round: usize) -> Tally {
-    let name = kind.name.bytes().fold(0, |sum: u64, byte| {
-        sum.wrapping_mul(257).wrapping_add(byte.into())
-    });
-    let count = if scale.quick {
-        (kind.count + 15) / 16
-    } else {
-        kind.count
-    };
-    let mut block = Block {
-        code,
-        random: Random::new(&[scale.seed, name, round as u64, n as u64]),
-        n,
-        count,
-        quick: scale.quick,
-        tally: Tally::default(),
-    };
-    (kind.make)(&mut block);
-    block.tally
+    fn note_frame(&mut self, case: &Case, said: &Said, written: &[u8]) {
+        let (tally, passes) = (&mut self.tally, said.passes());
+        tally.reach("passes", passes);
+        tally.reach("flips", said.flips());
+        tally.meet("allowance", case.argument);
+        let (ending, special) = match (said.number(), passes) {
+            (0, 0) => ("Clean", ""),
+            (0, 1) => ("Repaired", "RepairedInOne"),
+            (0, 2) => ("Repaired", "RepairedInTwo"),
+            (0, 10..=32) => ("Repaired", "RepairedLate"),
+            (0, _) => ("Repaired", ""),
+            (7, 2) => ("Stuck", "StuckInTwo"),
+            (7, 10..=32) => ("Stuck", "StuckLate"),
+            (7, _) => ("Stuck", ""),
+            _ => ("Spent", ""),
+        };
+        tally.count(ending);
+        if !special.is_empty() {
+            tally.count(special);
+        }
+        if said.number() == 0 && !written.is_empty() && said.output != written {
+            tally.count("WronglyRepaired");
+        }
+    }
 }

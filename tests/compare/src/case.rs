@@ -1,11 +1,28 @@
 //! One call of an entry point, and what each side answers to it.
 
-use crate::bits::ones;
-use crate::proved;
-use crate::random::Random;
 use second::{Answer, Code, Refusal, Report};
+use shared::bits::ones;
+use shared::random::Random;
 
-#[derive(Clone, Copy, Debug, PartialEq, Eq, PartialOrd, Ord)]
+/// The proved engine, behind its C interface. A call lends two buffers that do not overlap, and the engine keeps neither.
+mod proved {
+    extern "C" {
+        pub fn gazenohyri_encode(n: usize, data: *const u8, data_len: usize, frame: *mut u8, frame_len: usize) -> u32;
+        pub fn gazenohyri_decode(
+            n: usize,
+            allowance: usize,
+            received: *const u8,
+            received_len: usize,
+            frame: *mut u8,
+            frame_len: usize,
+        ) -> u64;
+        pub fn gazenohyri_read(n: usize, frame: *const u8, frame_len: usize, data: *mut u8, data_len: usize) -> u32;
+        pub fn probe_word(n: usize, received: *const u8, received_len: usize, word: *mut u8, word_len: usize) -> u64;
+        pub fn probe_row(n: usize, frame: *const u8, len: usize, i: usize, part: *mut u8, part_len: usize) -> usize;
+    }
+}
+
+#[derive(Clone, Copy, Debug, PartialEq, Eq)]
 pub enum Entry {
     Decode,
     Word,
@@ -25,8 +42,7 @@ pub struct Case {
     pub output: Vec<u8>,
 }
 
-/// What a side said, as one number packed by the rules of the C interface, and what it left in the
-/// output.
+/// What a side said, as one number packed by the rules of the C interface, and what it left in the output.
 #[derive(Clone, Debug, PartialEq, Eq)]
 pub struct Said {
     pub result: u64,
@@ -51,21 +67,8 @@ impl Said {
 
 impl Case {
     /// A case whose output of `output_len` bytes holds a random pattern.
-    pub fn new(
-        random: &mut Random,
-        entry: Entry,
-        n: usize,
-        input: Vec<u8>,
-        output_len: usize,
-    ) -> Case {
-        let output = random.bytes(output_len);
-        Case {
-            entry,
-            n,
-            argument: 0,
-            input,
-            output,
-        }
+    pub fn new(random: &mut Random, entry: Entry, n: usize, input: Vec<u8>, output_len: usize) -> Case {
+        Case { entry, n, argument: 0, input, output: random.bytes(output_len) }
     }
 
     pub fn with(self, argument: usize) -> Case {
@@ -75,31 +78,17 @@ impl Case {
     /// The order in which one case is smaller than another.
     pub fn size(&self) -> (usize, usize, usize, usize, usize, &[u8], &[u8]) {
         let (ones, input, output) = (ones(&self.input), self.input.len(), self.output.len());
-        (
-            self.n,
-            ones,
-            input,
-            output,
-            self.argument,
-            &self.input,
-            &self.output,
-        )
+        (self.n, ones, input, output, self.argument, &self.input, &self.output)
     }
 
-    pub fn second(&self, code: &Code) -> Said {
-        let mut output = self.output.clone();
-        let (n, input) = (self.n, &self.input);
-        let result = match self.entry {
-            Entry::Encode => number(code.encode(n, input, &mut output)),
-            Entry::Read => number(code.read(n, input, &mut output)),
-            Entry::Decode => match code.decode(n, self.argument, input, &mut output) {
-                Ok(report) => pack_report(&report),
-                Err(refusal) => refusal.number().into(),
-            },
-            Entry::Word => match code.decode_word(n, input, &mut output) {
-                Ok(answer) => pack_answer(&answer),
-                Err(refusal) => refusal.number().into(),
-            },
+    /// The second program's result. Nothing is masked: a count too large for its bits makes a difference.
+    pub fn call_second(&self, code: &Code, output: &mut [u8]) -> u64 {
+        let (n, input, refused) = (self.n, &self.input, |refusal: Refusal| refusal.number().into());
+        match self.entry {
+            Entry::Encode => code.encode(n, input, output).map_or_else(refused, |()| 0),
+            Entry::Read => code.read(n, input, output).map_or_else(refused, |()| 0),
+            Entry::Decode => code.decode(n, self.argument, input, output).map_or_else(refused, pack_report),
+            Entry::Word => code.decode_word(n, input, output).map_or_else(refused, pack_answer),
             Entry::Row => {
                 let part = second::row(n, input, self.argument);
                 if part.len() == output.len() {
@@ -107,12 +96,28 @@ impl Case {
                 }
                 part.len() as u64
             }
-        };
-        Said {
-            result,
-            output,
-            stray: false,
         }
+    }
+
+    pub fn call_proved(&self, input: &[u8], output: &mut [u8]) -> u64 {
+        let (n, i, from, len) = (self.n, self.argument, input.as_ptr(), input.len());
+        let (to, to_len) = (output.as_mut_ptr(), output.len());
+        // SAFETY: both are good for their lengths, and do not overlap.
+        unsafe {
+            match self.entry {
+                Entry::Encode => proved::gazenohyri_encode(n, from, len, to, to_len).into(),
+                Entry::Read => proved::gazenohyri_read(n, from, len, to, to_len).into(),
+                Entry::Decode => proved::gazenohyri_decode(n, i, from, len, to, to_len),
+                Entry::Word => proved::probe_word(n, from, len, to, to_len),
+                Entry::Row => proved::probe_row(n, from, len, i, to, to_len) as u64,
+            }
+        }
+    }
+
+    pub fn second(&self, code: &Code) -> Said {
+        let mut output = self.output.clone();
+        let result = self.call_second(code, &mut output);
+        Said { result, output, stray: false }
     }
 
     /// Lends the proved engine an output with a margin on both sides.
@@ -121,52 +126,25 @@ impl Case {
         let end = MARGIN + self.output.len();
         let mut room = vec![0xa5; end + MARGIN];
         room[MARGIN..end].copy_from_slice(&self.output);
-        let (n, input) = (self.n, self.input.clone());
-        let output = &mut room[MARGIN..end];
-        let result = match self.entry {
-            Entry::Encode => proved::encode(n, &input, output).into(),
-            Entry::Read => proved::read(n, &input, output).into(),
-            Entry::Decode => proved::decode(n, self.argument, &input, output),
-            Entry::Word => proved::word(n, &input, output),
-            Entry::Row => proved::row(n, &input, self.argument, output) as u64,
-        };
+        let input = self.input.clone();
+        let result = self.call_proved(&input, &mut room[MARGIN..end]);
         let mut margins = room[..MARGIN].iter().chain(&room[end..]);
         let stray = input != self.input || margins.any(|&byte| byte != 0xa5);
-        Said {
-            result,
-            output: room[MARGIN..end].to_vec(),
-            stray,
-        }
+        Said { result, output: room[MARGIN..end].to_vec(), stray }
     }
 }
 
-fn number(result: Result<(), Refusal>) -> u64 {
-    match result {
-        Ok(()) => 0,
-        Err(refusal) => refusal.number().into(),
-    }
-}
-
-// Nothing is masked: a count too large for its bits makes a difference.
-
-fn pack_report(report: &Report) -> u64 {
-    let counts = [
-        report.passes,
-        report.flips,
-        report.bad_rows,
-        report.bad_columns,
-    ];
+fn pack_report(report: Report) -> u64 {
+    let counts = [report.passes, report.flips, report.bad_rows, report.bad_columns];
     let [passes, flips, rows, columns] = counts.map(|count| count as u64);
     u64::from(report.number()) | passes << 8 | flips << 16 | rows << 32 | columns << 48
 }
 
-fn pack_answer(answer: &Answer) -> u64 {
-    let number = u64::from(answer.number());
-    match *answer {
-        Answer::Codeword | Answer::NoCodeword => number,
-        Answer::OnePlace(place) => number | 1 << 8 | (place as u64) << 16,
-        Answer::TwoPlaces(first, second) => {
-            number | 2 << 8 | (first as u64) << 16 | (second as u64) << 32
-        }
-    }
+fn pack_answer(answer: Answer) -> u64 {
+    let places = match answer {
+        Answer::Codeword | Answer::NoCodeword => 0,
+        Answer::OnePlace(place) => 1 << 8 | (place as u64) << 16,
+        Answer::TwoPlaces(first, second) => 2 << 8 | (first as u64) << 16 | (second as u64) << 32,
+    };
+    u64::from(answer.number()) | places
 }

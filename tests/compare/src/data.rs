@@ -1,22 +1,18 @@
 //! Encoding data and reading it back.
 
-use crate::bits::{
-    clear_spare_bits, has_spare_bits, row_mut, square_bytes, wrong_bits, CHECK_BITS,
-};
 use crate::block::Block;
 use crate::case::{Case, Entry};
-use crate::damage;
 use crate::promise::Promise;
-use crate::written::{self, Written};
+use shared::bits::{clear_spare_bits, has_spare_bits, row_mut, square_bytes, wrong_bits, CHECK_BITS};
+use shared::damage;
+use shared::written::{self, Written};
 
 fn encode_case(block: &mut Block, data: Vec<u8>) -> Case {
-    let bytes = square_bytes(block.n);
-    Case::new(&mut block.random, Entry::Encode, block.n, data, bytes)
+    block.case(Entry::Encode, data, square_bytes(block.n))
 }
 
 fn read_case(block: &mut Block, frame: Vec<u8>) -> Case {
-    let bytes = square_bytes(block.n - CHECK_BITS);
-    Case::new(&mut block.random, Entry::Read, block.n, frame, bytes)
+    block.case(Entry::Read, frame, square_bytes(block.n - CHECK_BITS))
 }
 
 /// The first data of each n is empty, the second full.
@@ -61,11 +57,7 @@ pub fn encode_spare_bits(block: &mut Block) {
         }
         let refused = has_spare_bits(k, &data);
         let case = encode_case(block, data);
-        let promise = if refused {
-            Promise::refused(5, &case)
-        } else {
-            Promise::encoded(&case)
-        };
+        let promise = if refused { Promise::refused(5, &case) } else { Promise::encoded(&case) };
         block.check(case, promise, &[]);
     }
 }
@@ -93,11 +85,7 @@ pub fn read_damaged(block: &mut Block) {
         let rows = wrong.iter().filter(|&&count| count > 0).count();
         let total: usize = wrong.iter().sum();
         let case = read_case(block, frame);
-        let promise = if total > 0 && (rows < 6 || total < 36) {
-            Promise::refused(6, &case)
-        } else {
-            Promise::None
-        };
+        let promise = if total > 0 && (rows < 6 || total < 36) { Promise::refused(6, &case) } else { Promise::None };
         block.check(case, promise, &written);
     }
 }

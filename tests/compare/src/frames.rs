@@ -1,13 +1,13 @@
 //! Decoding of whole frames.
 
-use crate::bits::{flip_at, row_mut, square_bytes};
 use crate::block::Block;
 use crate::case::{Case, Entry};
-use crate::damage;
-use crate::division::Places;
 use crate::promise::Promise;
-use crate::random::Random;
-use crate::written::{self, add_crossings, six_places};
+use shared::bits::{row_mut, square_bytes};
+use shared::damage;
+use shared::division::Places;
+use shared::random::Random;
+use shared::written::{self, add_crossings, six_places};
 
 /// 1 to 32, the small ones more often.
 fn allowance(random: &mut Random) -> usize {
@@ -19,16 +19,11 @@ fn allowance(random: &mut Random) -> usize {
 }
 
 pub fn case(block: &mut Block, allowance: usize, received: Vec<u8>) -> Case {
-    let bytes = square_bytes(block.n);
-    Case::new(&mut block.random, Entry::Decode, block.n, received, bytes).with(allowance)
+    block.case(Entry::Decode, received, square_bytes(block.n)).with(allowance)
 }
 
 /// Checks written frames, each after `damage`, with allowances from `allowance`.
-fn each(
-    block: &mut Block,
-    allowance: impl Fn(&mut Random) -> usize,
-    damage: impl Fn(&mut Random, usize, &mut [u8]),
-) {
+fn each(block: &mut Block, allowance: impl Fn(&mut Random) -> usize, damage: impl Fn(&mut Random, usize, &mut [u8])) {
     for _ in 0..block.count {
         let written = block.write_random().frame;
         let mut received = written.clone();
@@ -64,13 +59,7 @@ pub fn few_bits(block: &mut Block) {
 pub fn within_class(block: &mut Block) {
     let allowance = |random: &mut Random| random.within(2, 32);
     each(block, allowance, |random, n, frame| {
-        let most = random.below(3);
-        for i in 0..n {
-            let wrong = random.within(0, most);
-            for j in random.distinct(wrong, n) {
-                flip_at(n, frame, i, j);
-            }
-        }
+        damage::few_in_each_row(random, n, frame);
         let lost = random.within(0, 2);
         for i in random.distinct(lost, n) {
             let loss = damage::loss(random);
@@ -200,10 +189,7 @@ pub fn sixteen_bits(block: &mut Block) {
     let n = block.n;
     let places = Places::new(n);
     for _ in 0..block.count {
-        let lines = (
-            six_places(&places, &mut block.random, n),
-            six_places(&places, &mut block.random, n),
-        );
+        let lines = (six_places(&places, &mut block.random, n), six_places(&places, &mut block.random, n));
         let (rows, columns) = match lines {
             (Some(rows), Some(columns)) => (rows, columns),
             _ => return,

@@ -1,9 +1,9 @@
 //! The bench items of document 01, with the answers it gives.
 
-use crate::bits::{bit, bytes_for, flip, flip_at, square_bytes, SHORTEST};
 use crate::block::Block;
 use crate::case::{Case, Entry};
 use crate::promise::Promise;
+use shared::bits::{bit, bytes_for, flip, flip_at, square_bytes, SHORTEST};
 
 /// The codeword of 18 that is not zero.
 const TWELVE_ONES: [u8; 3] = [0xb7, 0xb1, 0xc0];

@@ -1,253 +1,81 @@
-//! All kinds of checks, and how many cases each has.
+//! All kinds of checks, how many cases each has for every n, and which answers it must meet.
 
-use crate::bits::{LONGEST, SHORTEST};
 use crate::block::{Block, Kind};
-use crate::tally::Seen::{self, *};
-use crate::{data, frames, items, knots, refusals, rows, words};
+use crate::{data, frames, items, knots, refusals, words};
+use shared::bits::{LONGEST, SHORTEST};
 
-const LENGTHS: usize = LONGEST - SHORTEST + 1;
+const LENGTHS: u64 = (LONGEST - SHORTEST + 1) as u64;
 
 /// A kind that has `count` cases for every n.
-fn kind(name: &'static str, count: usize, must_see: &'static [Seen], make: fn(&mut Block)) -> Kind {
-    Kind {
-        name,
-        count,
-        least: (count * LENGTHS) as u64,
-        lengths: SHORTEST..=LONGEST,
-        must_see,
-        make,
-    }
+fn kind(name: &'static str, count: usize, answers: &'static str, make: fn(&mut Block)) -> Kind {
+    Kind { name, count, least: count as u64 * LENGTHS, lengths: SHORTEST..=LONGEST, answers, make }
 }
 
 /// A kind that makes as many cases as there are.
-fn whole(name: &'static str, least: u64, must_see: &'static [Seen], make: fn(&mut Block)) -> Kind {
-    Kind {
-        least,
-        ..kind(name, 0, must_see, make)
-    }
+fn whole(name: &'static str, least: u64, answers: &'static str, make: fn(&mut Block)) -> Kind {
+    Kind { least, ..kind(name, 0, answers, make) }
 }
 
 fn sum_over_lengths(cases: fn(usize) -> usize) -> u64 {
     (SHORTEST..=LONGEST).map(cases).sum::<usize>() as u64
 }
 
+const FOUR: &str = "Codeword OnePlace TwoPlaces NoCodeword";
+const THREE: &str = "Repaired Stuck Spent";
+
 pub fn all() -> Vec<Kind> {
-    let mut kinds = settled_word_kinds();
-    kinds.extend(word_kinds());
-    kinds.extend(data_kinds());
-    kinds.extend(frame_kinds());
-    kinds.extend(made_frame_kinds());
-    kinds.extend(six_ones_kinds());
-    kinds.extend(refusal_kinds());
-    kinds.push(Kind {
-        lengths: 18..=18,
-        ..whole("bench items of document 01", 23, &[], items::items)
-    });
-    kinds
-}
-
-const FOUR: &[Seen] = &[Codeword, OnePlace, TwoPlaces, NoCodeword];
-
-/// Words whose answer document 01 settles.
-fn settled_word_kinds() -> Vec<Kind> {
+    let pairs = sum_over_lengths(|n| n + n * (n - 1) / 2);
+    let rows = sum_over_lengths(|n| n);
     vec![
-        Kind {
-            lengths: 18..=18,
-            ..whole(
-                "words, all 2^18 words at n = 18",
-                1 << 18,
-                FOUR,
-                words::all_at_18,
-            )
-        },
-        whole(
-            "words, every one and two wrong places",
-            sum_over_lengths(|n| n + n * (n - 1) / 2),
-            &[OnePlace, TwoPlaces],
-            words::every_place,
-        ),
+        // Words whose answer document 01 settles.
+        Kind { lengths: 18..=18, ..whole("words, all 2^18 words at n = 18", 1 << 18, FOUR, words::all_at_18) },
+        whole("words, every one and two wrong places", pairs, "OnePlace TwoPlaces", words::every_place),
         Kind {
             lengths: 18..=255,
             least: 400 * 238,
-            ..kind(
-                "words, wrong bits at places cut away",
-                400,
-                &[NoCodeword],
-                words::cut_away,
-            )
+            ..kind("words, wrong bits at places cut away", 400, "NoCodeword", words::cut_away)
         },
-    ]
-}
-
-fn word_kinds() -> Vec<Kind> {
-    vec![
-        kind(
-            "words, none to five wrong bits",
-            2400,
-            FOUR,
-            words::up_to_five,
-        ),
-        kind(
-            "words, random bytes and ones",
-            1200,
-            &[TwoPlaces, NoCodeword],
-            words::random,
-        ),
+        kind("words, none to five wrong bits", 2400, FOUR, words::up_to_five),
+        kind("words, random bytes and ones", 1200, "TwoPlaces NoCodeword", words::random),
         kind("words, spare bits set", 400, FOUR, words::spare_bits),
-    ]
-}
-
-fn data_kinds() -> Vec<Kind> {
-    vec![
-        kind("data encoded and read", 40, &[Encoded, Read], data::encode),
-        kind(
-            "data with spare bits set",
-            20,
-            &[Encoded, Number5],
-            data::encode_spare_bits,
-        ),
-        kind(
-            "reading frames with spare bits set",
-            20,
-            &[Read],
-            data::read_spare_bits,
-        ),
-        kind("reading damaged frames", 60, &[Number6], data::read_damaged),
-        whole(
-            "rows, every row of a frame",
-            sum_over_lengths(|n| n),
-            &[Row],
-            rows::every_row,
-        ),
-    ]
-}
-
-/// Damage as flash and cable do it.
-fn frame_kinds() -> Vec<Kind> {
-    const BOTH: &[Seen] = &[Repaired, Stuck, Spent];
-    vec![
-        kind("frames, clean", 16, &[Clean], frames::clean),
-        kind(
-            "frames, one wrong bit",
-            24,
-            &[RepairedInOne],
-            frames::one_bit,
-        ),
-        kind("frames, a few wrong bits", 48, BOTH, frames::few_bits),
-        kind("frames, whole rows", 40, BOTH, frames::whole_rows),
-        kind("frames, whole columns", 40, BOTH, frames::whole_columns),
-        kind(
-            "frames, crossings of rows and columns",
-            48,
-            BOTH,
-            frames::crossings,
-        ),
-        kind("frames, torn", 40, BOTH, frames::torn),
-        kind("frames, bursts", 32, BOTH, frames::bursts),
-        kind("frames, noise", 24, BOTH, frames::noise),
-        kind(
-            "frames, random bytes",
-            16,
-            &[Stuck, Spent],
-            frames::random_bytes,
-        ),
-        kind(
-            "frames, spare bits set",
-            24,
-            &[Clean, Repaired],
-            frames::spare_bits,
-        ),
-    ]
-}
-
-/// Damage made to lead the decoder somewhere.
-fn made_frame_kinds() -> Vec<Kind> {
-    vec![
-        kind(
-            "frames, within the class",
-            48,
-            &[Clean, RepairedInOne, RepairedInTwo],
-            frames::within_class,
-        ),
-        kind(
-            "frames, rows that are other codewords",
-            40,
-            &[RepairedInTwo, Stuck, Spent],
-            frames::other_codewords,
-        ),
-        kind(
-            "frames, rows of another frame",
-            32,
-            &[Clean, Repaired, Stuck, Spent],
-            frames::rows_of_another,
-        ),
-        kind(
-            "frames, chains that take many passes",
-            32,
-            &[RepairedLate, StuckLate, Spent],
-            frames::chains,
-        ),
-    ]
-}
-
-/// Damage made of codewords with just six ones.
-fn six_ones_kinds() -> Vec<Kind> {
-    vec![
+        kind("data encoded and read", 40, "Encoded Read", data::encode),
+        kind("data with spare bits set", 20, "Encoded Number5", data::encode_spare_bits),
+        kind("reading frames with spare bits set", 20, "Read", data::read_spare_bits),
+        kind("reading damaged frames", 60, "Number6", data::read_damaged),
+        whole("rows, every row of a frame", rows, "Row", refusals::every_row),
+        // Damage as flash and cable do it.
+        kind("frames, clean", 16, "Clean", frames::clean),
+        kind("frames, one wrong bit", 24, "RepairedInOne", frames::one_bit),
+        kind("frames, a few wrong bits", 48, THREE, frames::few_bits),
+        kind("frames, whole rows", 40, THREE, frames::whole_rows),
+        kind("frames, whole columns", 40, THREE, frames::whole_columns),
+        kind("frames, crossings of rows and columns", 48, THREE, frames::crossings),
+        kind("frames, torn", 40, THREE, frames::torn),
+        kind("frames, bursts", 32, THREE, frames::bursts),
+        kind("frames, noise", 24, THREE, frames::noise),
+        kind("frames, random bytes", 16, "Stuck Spent", frames::random_bytes),
+        kind("frames, spare bits set", 24, "Clean Repaired", frames::spare_bits),
+        // Damage made to lead the decoder somewhere.
+        kind("frames, within the class", 48, "Clean RepairedInOne RepairedInTwo", frames::within_class),
+        kind("frames, rows that are other codewords", 40, "RepairedInTwo Stuck Spent", frames::other_codewords),
+        kind("frames, rows of another frame", 32, "Clean Repaired Stuck Spent", frames::rows_of_another),
+        kind("frames, chains that take many passes", 32, "RepairedLate StuckLate Spent", frames::chains),
+        // Damage made of codewords with just six ones.
         Kind {
             lengths: 31..=256,
             least: 8 * 226,
-            ..kind(
-                "frames, sixteen bits of another frame",
-                8,
-                &[WronglyRepaired, Spent],
-                frames::sixteen_bits,
-            )
+            ..kind("frames, sixteen bits of another frame", 8, "WronglyRepaired Spent", frames::sixteen_bits)
         },
         Kind {
             lengths: knots::LENGTHS,
             least: 6 * 57,
-            ..kind(
-                "frames, passes that undo one another",
-                6,
-                &[Spent],
-                knots::knots,
-            )
+            ..kind("frames, passes that undo one another", 6, "Spent", knots::knots)
         },
-    ]
-}
-
-fn refusal_kinds() -> Vec<Kind> {
-    const LENGTH: u64 = LENGTHS as u64;
-    vec![
-        whole(
-            "refusals of words",
-            100 * LENGTH,
-            &[Number1, Number2, Number3],
-            refusals::word,
-        ),
-        whole(
-            "refusals of encode",
-            100 * LENGTH,
-            &[Number1, Number2, Number3, Number5],
-            refusals::encode,
-        ),
-        whole(
-            "refusals of read",
-            100 * LENGTH,
-            &[Number1, Number2, Number3, Number6],
-            refusals::read,
-        ),
-        whole(
-            "refusals of decode",
-            500 * LENGTH,
-            &[Number1, Number2, Number3, Number4],
-            refusals::decode,
-        ),
-        whole(
-            "refusals of row",
-            70 * LENGTH,
-            &[Row, NoRow],
-            rows::refusals,
-        ),
+        whole("refusals of words", 100 * LENGTHS, "Number1 Number2 Number3", refusals::word),
+        whole("refusals of encode", 100 * LENGTHS, "Number1 Number2 Number3 Number5", refusals::encode),
+        whole("refusals of read", 100 * LENGTHS, "Number1 Number2 Number3 Number6", refusals::read),
+        whole("refusals of decode", 500 * LENGTHS, "Number1 Number2 Number3 Number4", refusals::decode),
+        whole("refusals of row", 70 * LENGTHS, "Row NoRow", refusals::row),
+        Kind { lengths: 18..=18, ..whole("bench items of document 01", 23, "", items::items) },
     ]
 }

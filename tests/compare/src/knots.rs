@@ -4,13 +4,13 @@
 //! pass over rows makes six, a codeword away; two further rows, of three wrong bits each, see that
 //! the four columns are refused. The pass over columns takes the two added columns back.
 
-use crate::bits::flip_at;
 use crate::block::Block;
-use crate::damage;
-use crate::division::Places;
 use crate::frames::case;
 use crate::promise::Promise;
-use crate::random::Random;
+use shared::bits::flip_at;
+use shared::damage;
+use shared::division::Places;
+use shared::random::Random;
 use std::ops::RangeInclusive;
 
 /// So long that many knots fit.

@@ -1,119 +1,73 @@
-//! Runs every kind of check and counts each as passed or failed.
-//!
-//! `compare [--seed N] [--rounds N] [--quick]`: with --quick few cases, for tests/compare/planted.
+//! Runs every kind of check and counts each as passed or failed. The flags are those of `Scale`.
 
-use compare::block::{run_kind, Scale};
-use compare::coverage::coverage;
-use compare::report::{dump, fault, grouped, line};
-use compare::shrink::shrink;
-use compare::tally::{keep_smallest, Found, Tally};
-use compare::{case::Entry, kinds};
+use compare::block::{Kind, Tally};
+use compare::kinds;
 use second::Code;
-use std::process::exit;
-
-const FLAGS: &str = "--seed N and --rounds N for other and more cases, and --quick for few, as \
-                     tests/compare/planted wants them";
+use shared::run::Scale;
+use shared::score::{grouped, Score};
 
 fn main() {
-    let scale = flags().unwrap_or_else(|wrong| {
-        eprintln!("{}: the flags are {}", wrong, FLAGS);
-        println!("0 passed, 1 failed");
-        exit(1)
-    });
-    let code = Code::new();
-    let (mut passed, mut failed) = (0, 0);
-    let mut count = |fault: &str| {
-        if fault.is_empty() {
-            passed += 1;
-        } else {
-            failed += 1;
-        }
-    };
-    let (mut total, mut smallest) = (Tally::default(), Smallest::default());
+    let (scale, code) = (Scale::asked(), Code::new());
+    let (mut score, mut total) = (Score::default(), Tally::default());
     for kind in kinds::all() {
-        let tally = run_kind(&code, &kind, scale);
-        let fault = fault(&kind, &tally, scale);
-        let cases = format!("{:>10} cases", grouped(tally.cases));
-        println!("{}", line(kind.name, &fault, &cases));
-        count(&fault);
-        smallest.keep(&tally);
+        let tally = kind.run(&code, scale);
+        let cases = format!("{:>10} cases", grouped(tally.of("cases")));
+        score.count(kind.name, &fault(&kind, &tally, scale), &cases);
         total.add(tally);
     }
-    for part in coverage(&total, scale) {
-        let fault = if part.met { "" } else { "not all was met" };
-        println!(
-            "{}",
-            line(&format!("met: {}", part.name), fault, &part.counts)
-        );
-        count(fault);
+    coverage(&mut score, &total, scale);
+    for (what, found) in total.smallest() {
+        let found = if what.contains("difference") { found.shrink(&code) } else { found };
+        println!("{}", found.print(what));
     }
-    smallest.print(&code);
-    println!("{} passed, {} failed", passed, failed);
-    exit(if failed == 0 { 0 } else { 1 });
+    score.end()
 }
 
-fn flags() -> Result<Scale, String> {
-    let mut scale = Scale {
-        seed: 1,
-        rounds: 1,
-        quick: false,
+/// Why a kind fails, or nothing.
+fn fault(kind: &Kind, tally: &Tally, scale: Scale) -> String {
+    let mut faults = Vec::new();
+    for what in ["differences", "promises not kept", "judged otherwise by long division"] {
+        if tally.of(what) > 0 {
+            faults.push(format!("{} {}", grouped(tally.of(what)), what));
+        }
+    }
+    let least = if scale.quick { 1 } else { kind.least * scale.rounds as u64 };
+    if tally.of("cases") < least {
+        faults.push(format!("there should be {} cases", grouped(least)));
+    }
+    if !scale.quick {
+        let missing = tally.missing("n", kind.lengths.clone());
+        faults.extend(missing.map(|n| format!("n = {} was not met", n)));
+        let unmet = kind.must_see().filter(|&seen| tally.of(seen) == 0);
+        faults.extend(unmet.map(|seen| format!("{} was not met", seen)));
+    }
+    faults.join(", ")
+}
+
+/// What all cases together must have met, so that agreement means something.
+fn coverage(score: &mut Score, total: &Tally, scale: Scale) {
+    let words = ["Codeword", "OnePlace", "TwoPlaces", "NoCodeword"];
+    let frames = ["Clean", "Repaired", "Stuck", "Spent"];
+    let special = ["WronglyRepaired", "RepairedLate", "StuckInTwo", "StuckLate"];
+    let refused = ["Number1", "Number2", "Number3", "Number4", "Number5", "Number6"];
+    let mut met = |name, kinds: &[&str]| {
+        let counts: Vec<String> = kinds.iter().map(|kind| format!("{} {}", kind, grouped(total.of(kind)))).collect();
+        score.met(name, kinds.iter().all(|kind| total.of(kind) > 0), &counts.join(", "));
     };
-    let mut flags = std::env::args().skip(1);
-    while let Some(flag) = flags.next() {
-        let mut number = || {
-            let text = flags.next().ok_or(format!("{} has no number", flag))?;
-            text.parse().map_err(|_| format!("{} {}", flag, text))
-        };
-        match flag.as_str() {
-            "--seed" => scale.seed = number()?,
-            "--rounds" => scale.rounds = number()?,
-            "--quick" => scale.quick = true,
-            _ => return Err(flag),
-        }
-    }
-    if scale.rounds == 0 || scale.rounds > 1_000_000 {
-        return Err(format!("--rounds {}", scale.rounds));
-    }
-    Ok(scale)
-}
-
-/// The smallest cases of each entry point.
-#[derive(Default)]
-struct Smallest {
-    differences: [Option<Found>; 5],
-    broken: [Option<Found>; 5],
-}
-
-impl Smallest {
-    fn keep(&mut self, tally: &Tally) {
-        if let Some(found) = &tally.smallest_difference {
-            let entry = found.case.entry as usize;
-            keep_smallest(&mut self.differences[entry], Some(found.clone()));
-        }
-        if let Some(found) = &tally.smallest_broken {
-            let entry = found.case.entry as usize;
-            keep_smallest(&mut self.broken[entry], Some(found.clone()));
-        }
-    }
-
-    fn print(self, code: &Code) {
-        const ENTRIES: [Entry; 5] = [
-            Entry::Decode,
-            Entry::Word,
-            Entry::Encode,
-            Entry::Read,
-            Entry::Row,
-        ];
-        let both = self.differences.into_iter().zip(self.broken);
-        for (entry, (difference, broken)) in ENTRIES.iter().zip(both) {
-            if let Some(found) = difference {
-                let what = format!("smallest difference of {:?}", entry);
-                println!("{}", dump(&what, &shrink(code, found)));
-            }
-            if let Some(found) = broken {
-                let what = format!("smallest promise not kept of {:?}", entry);
-                println!("{}", dump(&what, &found));
-            }
-        }
-    }
+    met("the four answers for words", &words);
+    met("the four endings for frames", &frames);
+    met("frames that test the endings", &special);
+    met("the refusals 1 to 6", &refused);
+    let (passes, flips) = (total.most("passes"), total.most("flips"));
+    let all = total.missing("allowance", 1..=32).is_none() && passes == 32;
+    score.met("every allowance, up to all 32 passes", all, &format!("most passes {}", passes));
+    let many = scale.quick || flips >= 1 << 12;
+    score.met("flips past 12 bits in one frame", many, &format!("most flips {}", grouped(flips)));
+    let sum = |kinds: &[&str]| kinds.iter().map(|kind| total.of(kind)).sum::<u64>();
+    let counts = [sum(&words), sum(&frames), total.of("cases"), total.of("promises")];
+    let least = if scale.quick { [20_000, 2_000] } else { [1_000_000, 100_000] };
+    let enough = counts[0] >= least[0] && counts[1] >= least[1] && counts[3] * 2 > counts[2];
+    let [words, frames, all, promises] = counts.map(grouped);
+    let counts = format!("words {}, frames {}, all {}, with a promise {}", words, frames, all, promises);
+    score.met("enough cases, and enough promises", enough, &counts);
 }

@@ -1,8 +1,8 @@
 //! What document 01 promises of a case by the way it was made, whatever the second program says.
 
-use crate::bits::wrong_bits;
 use crate::case::{Case, Said};
-use crate::division::is_frame_of;
+use shared::bits::{follows, Follows};
+use shared::division::is_frame_of;
 
 pub enum Promise {
     None,
@@ -39,18 +39,12 @@ impl Promise {
 
     /// What follows for decode from the rows' numbers of wrong bits.
     pub fn of_frame(case: &Case, written: &[u8]) -> Promise {
-        let wrong = wrong_bits(case.n, written, &case.input);
-        let total: usize = wrong.iter().sum();
-        let refused = wrong.iter().filter(|&&count| count > 2).count();
-        if total == 0 {
-            Promise::Exactly(0, written.to_vec())
-        } else if refused == 0 {
-            let (passes, flips) = (1, total as u64);
-            Promise::Exactly(passes << 8 | flips << 16, written.to_vec())
-        } else if refused <= 2 && case.argument >= 2 {
-            Promise::Mended(written.to_vec())
-        } else {
-            Promise::None
+        let passes = 1 << 8;
+        match follows(case.n, case.argument, written, &case.input) {
+            Follows::Clean => Promise::Exactly(0, written.to_vec()),
+            Follows::OnePass(flips) => Promise::Exactly(passes | (flips as u64) << 16, written.to_vec()),
+            Follows::TwoPasses(_) => Promise::Mended(written.to_vec()),
+            Follows::Nothing => Promise::None,
         }
     }
 

@@ -1,9 +1,9 @@
-//! Bad arguments, one reason or several at once. The output must stay untouched.
+//! Bad arguments, one reason or several at once: the output must stay untouched. And row i of a frame.
 
-use crate::bits::{bytes_for, has_spare_bits, square_bytes, CHECK_BITS, LONGEST, SHORTEST};
 use crate::block::Block;
 use crate::case::{Case, Entry};
 use crate::promise::Promise;
+use shared::bits::{bytes_for, has_spare_bits, row as row_of, square_bytes, CHECK_BITS, LONGEST, SHORTEST};
 
 pub fn encode(block: &mut Block) {
     refusals(block, Entry::Encode);
@@ -22,22 +22,13 @@ pub fn word(block: &mut Block) {
 }
 
 /// Values of n that are out of range, some of which are in range if a part of their bits is lost.
-pub fn bad_lengths() -> Vec<usize> {
+fn bad_lengths() -> Vec<usize> {
     let word = u32::MAX as usize;
-    let some = [
-        0, 1, 2, 8, 16, 17, 257, 258, 274, 512, 1000, 65535, 65554, 65792,
-    ];
-    let large = [
-        word,
-        word.wrapping_add(1),
-        word.wrapping_add(19),
-        usize::MAX / 2,
-        usize::MAX / 2 + 19,
-        usize::MAX - 17,
-        usize::MAX - 7,
-        usize::MAX,
-    ];
-    let all = some.into_iter().chain(large);
+    let some = [0, 1, 2, 8, 16, 17, 257, 258, 274, 512, 1000, 65535, 65554, 65792];
+    let half = usize::MAX / 2;
+    let large = [word, word.wrapping_add(1), word.wrapping_add(19), half, half + 19];
+    let largest = [usize::MAX - 17, usize::MAX - 7, usize::MAX];
+    let all = some.into_iter().chain(large).chain(largest);
     all.filter(|n| !(SHORTEST..=LONGEST).contains(n)).collect()
 }
 
@@ -53,8 +44,8 @@ fn exact(entry: Entry, n: usize) -> (usize, usize) {
 }
 
 /// A length and the wrong ones beside it.
-pub fn around(len: usize, other: usize) -> Vec<usize> {
-    vec![len, len - 1, len + 1, 0, 2 * len, other]
+fn around(len: usize, other: usize) -> [usize; 6] {
+    [len, len - 1, len + 1, 0, 2 * len, other]
 }
 
 /// The first check that applies, for numbers 1 to 5.
@@ -63,18 +54,13 @@ fn refusal(case: &Case) -> Option<u64> {
         return Some(1);
     }
     let (input, output) = exact(case.entry, case.n);
-    let spare = |case: &Case| has_spare_bits(case.n - CHECK_BITS, &case.input);
-    if case.input.len() != input {
-        Some(2)
-    } else if case.output.len() != output {
-        Some(3)
-    } else if case.entry == Entry::Decode && !(1..=32).contains(&case.argument) {
-        Some(4)
-    } else if case.entry == Entry::Encode && spare(case) {
-        Some(5)
-    } else {
-        None
-    }
+    let reasons = [
+        (2, case.input.len() != input),
+        (3, case.output.len() != output),
+        (4, case.entry == Entry::Decode && !(1..=32).contains(&case.argument)),
+        (5, case.entry == Entry::Encode && has_spare_bits(case.n - CHECK_BITS, &case.input)),
+    ];
+    reasons.iter().find(|(_, applies)| *applies).map(|&(number, _)| number)
 }
 
 fn refusals(block: &mut Block, entry: Entry) {
@@ -85,8 +71,8 @@ fn refusals(block: &mut Block, entry: Entry) {
         Entry::Decode => vec![2, 0, 33, 255, 256, 257, usize::MAX],
         _ => vec![0],
     };
-    for &input in &around(input, next.0) {
-        for &output in &around(output, next.1) {
+    for input in around(input, next.0) {
+        for output in around(output, next.1) {
             for &allowance in &allowances {
                 check(block, entry, n, (input, output), allowance);
             }
@@ -101,14 +87,57 @@ fn refusals(block: &mut Block, entry: Entry) {
     }
 }
 
-/// Checks random bytes of these lengths. Where the lengths are right, most data has spare bits, and
-/// what should be a frame is none.
+/// Checks random bytes of these lengths. Where the lengths are right, most data has spare bits, and what should be a frame is
+/// none.
 fn check(block: &mut Block, entry: Entry, n: usize, lengths: (usize, usize), allowance: usize) {
     let input = block.random.bytes(lengths.0);
     let case = Case::new(&mut block.random, entry, n, input, lengths.1).with(allowance);
-    let promise = match refusal(&case) {
-        Some(number) => Promise::refused(number, &case),
-        None => Promise::None,
-    };
+    let promise = refusal(&case).map_or(Promise::None, |number| Promise::refused(number, &case));
+    block.check(case, promise, &[]);
+}
+
+pub fn every_row(block: &mut Block) {
+    let n = block.n;
+    let frame = block.random.bytes(square_bytes(n));
+    for i in 0..n {
+        let case = block.case(Entry::Row, frame.clone(), bytes_for(n)).with(i);
+        let promise = Promise::Exactly(bytes_for(n) as u64, row_of(n, &frame, i).to_vec());
+        block.check(case, promise, &[]);
+    }
+}
+
+/// No row where n, the length or i is wrong. A part that is lent in another length than the row's is left alone.
+pub fn row(block: &mut Block) {
+    let (n, width) = (block.n, bytes_for(block.n));
+    let frame = block.random.bytes(square_bytes(n));
+    for i in [n, n + 1, 2 * n, 255, 256, usize::MAX / 2, usize::MAX] {
+        for part in [width, 0] {
+            if i >= n {
+                part_untouched(block, n, frame.clone(), i, part, 0);
+            }
+        }
+    }
+    for &len in &around(square_bytes(n), square_bytes(n - 1))[1..] {
+        for i in [0, n - 1, n] {
+            let frame = block.random.bytes(len);
+            part_untouched(block, n, frame, i, width, 0);
+        }
+    }
+    for bad in bad_lengths() {
+        for len in [square_bytes(n), 0] {
+            let frame = block.random.bytes(len);
+            let i = block.random.below(n);
+            part_untouched(block, bad, frame, i, width, 0);
+        }
+    }
+    for &part in &around(width, 2)[1..] {
+        let i = block.random.below(n);
+        part_untouched(block, n, frame.clone(), i, part, width as u64);
+    }
+}
+
+fn part_untouched(block: &mut Block, n: usize, frame: Vec<u8>, i: usize, part: usize, result: u64) {
+    let case = Case::new(&mut block.random, Entry::Row, n, frame, part).with(i);
+    let promise = Promise::refused(result, &case);
     block.check(case, promise, &[]);
 }

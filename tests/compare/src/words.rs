@@ -1,9 +1,9 @@
 //! Single words.
 
-use crate::bits::{bit, bytes_for, flip, ones, spare_mask, xor, CHECK_BITS, LONGEST, SHORTEST};
 use crate::block::Block;
 use crate::case::{Case, Entry};
 use crate::promise::Promise;
+use shared::bits::{bit, bytes_for, flip, ones, spare_mask, xor, CHECK_BITS, LONGEST, SHORTEST};
 
 fn case(block: &mut Block, n: usize, received: Vec<u8>) -> Case {
     Case::new(&mut block.random, Entry::Word, n, received, bytes_for(n))
@@ -34,11 +34,7 @@ fn some_codeword(block: &mut Block) -> Vec<u8> {
 pub fn all_at_18(block: &mut Block) {
     let lengths = LONGEST - SHORTEST + 1;
     for number in (block.n - SHORTEST..1 << 18).step_by(lengths) {
-        let mut received = vec![
-            (number >> 10) as u8,
-            (number >> 2) as u8,
-            (number << 6) as u8,
-        ];
+        let mut received = vec![(number >> 10) as u8, (number >> 2) as u8, (number << 6) as u8];
         let near = [[0; 3], [0xb7, 0xb1, 0xc0]].map(|codeword| {
             let mut damage = received.clone();
             xor(&mut damage, &codeword);
@@ -138,11 +134,7 @@ pub fn spare_bits(block: &mut Block) {
     for index in 0..block.count {
         let written = some_codeword(block);
         let wrong = block.random.distinct(index % 4, block.n);
-        let spare = if block.random.once_in(4) {
-            0xff
-        } else {
-            block.random.byte() | 1
-        };
+        let spare = if block.random.once_in(4) { 0xff } else { block.random.byte() | 1 };
         check_damaged(block, &written, &wrong, spare);
     }
 }

@@ -1,72 +1,23 @@
 //! First lines, good and bad.
 
 use crate::records::{self, Maker};
-use crate::text::{Dump, Expect, Line, HEADER};
+use crate::text::{texts, Dump, Expect, Line, HEADER};
 
-const WRONG: [&[u8]; 50] = [
-    b"",
-    b"\t",
-    b" ",
-    b"\r",
-    b"\0",
-    b"frames",
-    b"frames\t",
-    b"frames\t2",
-    b"frames\t0",
-    b"frames\t11",
-    b"frames\t1\t",
-    b"frames\t1\r",
-    b"frames\t1 ",
-    b"frames\t1\0",
-    b"frames\t1x",
-    b"frames\t1.0",
-    b"frames\t01",
-    b"frames\t+1",
-    b"frames\t 1",
-    b"frames \t1",
-    b"frames\t\t1",
-    b"frames 1",
-    b"frames  1",
-    b"frames,1",
-    b"frames1",
-    b"frames\\t1",
-    b"frames\t1frames\t1",
-    b"frames\tI",
-    b"frames\t\xb9",
-    b"frames\x0b1",
-    b"frames\r\t1",
-    b" frames\t1",
-    b"\tframes\t1",
-    b"\0frames\t1",
-    b"\xef\xbb\xbfframes\t1",
-    b"\xff\xfef\0r\0a\0",
-    b"Frames\t1",
-    b"FRAMES\t1",
-    b"frameS\t1",
-    b"frame\t1",
-    b"framess\t1",
-    b"ffames\t1",
-    b"repair\t1",
-    b"bad header",
-    b"#frames\t1",
-    b"1\tframes",
-    b"0\t18\t2\t",
-    b"?\t1",
-    b"frames\t1\t0\t18",
-    b"\"frames\t1\"",
-];
+const WRONG: &[u8] =
+    b"|\t| |\r|\0|frames|frames\t|frames\t2|frames\t0|frames\t11|frames\t1\t|frames\t1\r|frames\t1 |frames\t1\0|\
+    frames\t1x|frames\t1.0|frames\t01|frames\t+1|frames\t 1|frames \t1|frames\t\t1|frames 1|frames  1|frames,1|\
+    frames1|frames\\t1|frames\t1frames\t1|frames\tI|frames\t\xb9|frames\x0b1|frames\r\t1| frames\t1|\tframes\t1|\
+    \0frames\t1|\xef\xbb\xbfframes\t1|\xff\xfef\0r\0a\0|Frames\t1|FRAMES\t1|frameS\t1|frame\t1|framess\t1|ffames\t1|\
+    repair\t1|bad header|#frames\t1|1\tframes|0\t18\t2\t|?\t1|frames\t1\t0\t18|\"frames\t1\"";
 
 /// With two good records after it, so that taking it for good shows.
 fn with_records(maker: &mut Maker, first: Line, closed: bool) -> Dump {
-    let mut lines = vec![first];
-    lines.push(records::clean(maker, 18));
-    lines.push(records::refused(maker));
-    Dump::new(lines, closed)
+    Dump::new(vec![first, records::clean(maker, 18), records::refused(maker)], closed)
 }
 
 /// Wrong in a way of its own, alone or before good records.
 pub fn wrong(maker: &mut Maker) -> Vec<Dump> {
-    let mut firsts: Vec<Vec<u8>> = WRONG.iter().map(|&text| text.to_vec()).collect();
+    let mut firsts: Vec<Vec<u8>> = texts(WRONG).map(<[u8]>::to_vec).collect();
     for length in 0..HEADER.len() {
         firsts.push(HEADER[..length].to_vec());
         firsts.push(HEADER[length + 1..].to_vec());

@@ -1,8 +1,8 @@
 //! Records whose report document 01 writes down, or that follows at once from its bench items.
 
-use crate::bits::{bytes_for, flip_at, square_bytes};
 use crate::records;
-use crate::text::{Dump, Expect, Line};
+use crate::text::{Dump, Line};
+use shared::bits::{bit, clear_spare_bits, flip_at, square_bytes};
 
 /// At n = 18, the one codeword beside zero.
 const OTHER: [u8; 3] = [0xb7, 0xb1, 0xc0];
@@ -16,74 +16,48 @@ fn with_bits(bits: &[(usize, usize)]) -> Vec<u8> {
     frame
 }
 
-fn item_a() -> Vec<u8> {
-    with_bits(&[])
-}
-
-fn item_b() -> Vec<u8> {
-    with_bits(&[(0, 0), (0, 1)])
-}
-
-fn item_c() -> Vec<u8> {
-    let bits: Vec<_> = (0..36).map(|place| (place / 18, place % 18)).collect();
-    with_bits(&bits)
-}
-
-fn item_d() -> Vec<u8> {
-    let bits: Vec<_> = (0..9).map(|place| (place / 3, place % 3)).collect();
+/// Bits 0 to `columns` - 1 of as many rows are set.
+fn corner(rows: usize, columns: usize) -> Vec<u8> {
+    let bits: Vec<_> = (0..rows * columns).map(|place| (place / columns, place % columns)).collect();
     with_bits(&bits)
 }
 
 /// The frame of data bit 1 at n = 18.
 fn data_bit_1() -> Vec<u8> {
-    let rows = (0..18).map(|i| {
-        let one = OTHER[i / 8] >> (7 - i % 8) & 1 == 1;
-        if one {
-            OTHER
-        } else {
-            [0; 3]
-        }
-    });
+    let rows = (0..18).map(|i| if bit(&OTHER, i) { OTHER } else { [0; 3] });
     rows.flatten().collect()
 }
 
 /// n rows of n ones, or n rows of as many bits as there are, all of them ones.
 fn ones(n: usize, spare: bool) -> Vec<u8> {
     let mut frame = vec![0xff; square_bytes(n)];
-    let spare_bits = 8 * bytes_for(n) - n;
     if !spare {
-        let last = frame.chunks_exact_mut(bytes_for(n));
-        last.for_each(|row| row[bytes_for(n) - 1] <<= spare_bits);
+        clear_spare_bits(n, &mut frame);
     }
     frame
 }
 
 fn line(number: usize, n: usize, allowance: usize, frame: &[u8], said: &str) -> Line {
-    let text = records::text(number, n, allowance, frame);
-    let said = format!("{} {}", number, said).replace(' ', "\t");
-    Line {
-        text,
-        expect: Expect::Exactly(said),
-    }
+    Line::says(records::text(number, n, allowance, frame), number, said)
 }
 
 fn example() -> Vec<Line> {
     vec![
-        line(0, 18, 2, &item_a(), "clean 0 0 0 0"),
-        line(1, 18, 2, &item_b(), "repaired 1 2 0 0"),
-        line(2, 18, 2, &item_c(), "repaired 2 36 0 0"),
-        line(3, 18, 2, &item_d(), "stuck 2 0 3 3"),
-        line(4, 17, 2, &item_a(), "refused 1 0 0 0"),
+        line(0, 18, 2, &corner(0, 1), "clean 0 0 0 0"),
+        line(1, 18, 2, &corner(1, 2), "repaired 1 2 0 0"),
+        line(2, 18, 2, &corner(2, 18), "repaired 2 36 0 0"),
+        line(3, 18, 2, &corner(3, 3), "stuck 2 0 3 3"),
+        line(4, 17, 2, &corner(0, 1), "refused 1 0 0 0"),
         Line::bad(""),
     ]
 }
 
 fn at_18() -> Vec<Line> {
-    let a = item_a();
+    let a = corner(0, 1);
     let spare = with_bits(&[(0, 18), (17, 23)]);
     let only_last = with_bits(&[(0, 17)]);
     vec![
-        line(10, 18, 1, &item_c(), "spent 1 0 2 18"),
+        line(10, 18, 1, &corner(2, 18), "spent 1 0 2 18"),
         line(11, 18, 1, &data_bit_1(), "clean 0 0 0 0"),
         line(12, 18, 1, &spare, "clean 0 0 0 0"),
         line(13, 18, 1, &only_last, "repaired 1 1 0 0"),

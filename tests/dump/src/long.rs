@@ -1,27 +1,17 @@
 //! Lines about the greatest length, and far longer ones.
 
-use crate::bits::square_bytes;
-use crate::random::Random;
 use crate::records::{self, Maker};
-use crate::text::{Dump, Expect, Line, HEADER};
+use crate::text::{Dump, Line, HEADER};
+use shared::bits::square_bytes;
+use shared::random::Random;
 
 /// The most characters of a line, its LF not counted.
 const LONGEST_LINE: usize = 16_414;
 
 /// The digits of number, n and allowance. The hex digits that are left over are an even number for
 /// half of them at each length.
-const DIGITS: [[usize; 3]; 10] = [
-    [1, 1, 1],
-    [1, 2, 1],
-    [1, 3, 1],
-    [2, 3, 1],
-    [9, 3, 2],
-    [9, 3, 9],
-    [9, 2, 9],
-    [9, 9, 8],
-    [8, 9, 9],
-    [9, 9, 9],
-];
+const DIGITS: [[usize; 3]; 10] =
+    [[1, 1, 1], [1, 2, 1], [1, 3, 1], [2, 3, 1], [9, 3, 2], [9, 3, 9], [9, 2, 9], [9, 9, 8], [8, 9, 9], [9, 9, 9]];
 
 fn of_digits(random: &mut Random, count: usize) -> usize {
     let bound = 10usize.pow(count as u32);
@@ -48,18 +38,12 @@ fn record(maker: &mut Maker, length: usize, digits: [usize; 3]) -> Line {
     if length > LONGEST_LINE || hex % 2 != 0 {
         return Line::bad(text);
     }
-    let why = if good { 2 } else { 1 };
-    let expect = Expect::Exactly(format!("{}\trefused\t{}\t0\t0\t0", number, why));
-    Line { text, expect }
+    Line::says(text, number, if good { "refused 2 0 0 0" } else { "refused 1 0 0 0" })
 }
 
 /// Lines of `length` characters that are bad by their form, by one character.
 fn bad_by_one(maker: &mut Maker, length: usize) -> Vec<Line> {
-    let digits = if length % 2 == 0 {
-        [1, 1, 1]
-    } else {
-        [1, 2, 1]
-    };
+    let digits = if length % 2 == 0 { [1, 1, 1] } else { [1, 2, 1] };
     let good = record(maker, length, digits).text;
     let changes = [
         (0, b' '),
@@ -91,11 +75,7 @@ fn bad_by_form(maker: &mut Maker, length: usize) -> Vec<Line> {
         lines.push(Line::bad(vec![fill; length]));
     }
     // A good one, and something more.
-    let digits = if length % 2 == 0 {
-        [1, 2, 1]
-    } else {
-        [1, 1, 1]
-    };
+    let digits = if length % 2 == 0 { [1, 2, 1] } else { [1, 1, 1] };
     for more in [b'\r', b'\t', b' ', b'0', 0] {
         let mut text = record(maker, length - 1, digits).text;
         text.push(more);
@@ -110,10 +90,8 @@ fn longer_frames(maker: &mut Maker) -> Vec<Line> {
     let mut lines = Vec::new();
     for more in [0, 1, 2, 8, 11] {
         let longer = [&frame[..], &vec![0; more]].concat();
-        let said = if more == 0 { "clean\t0" } else { "refused\t2" };
-        let expect = Expect::Exactly(format!("{}\t{}\t0\t0\t0", more % 10, said));
-        let text = records::text(more % 10, 256, 2, &longer);
-        lines.push(Line { text, expect });
+        let said = if more == 0 { "clean 0 0 0 0" } else { "refused 2 0 0 0" };
+        lines.push(Line::says(records::text(more % 10, 256, 2, &longer), more % 10, said));
     }
     lines
 }
@@ -178,10 +156,8 @@ pub fn about_the_longest(maker: &mut Maker) -> Vec<Dump> {
 /// Far too long: of one character, and records that go on; also such that what comes after the
 /// greatest length looks like a record.
 fn far_too_long(maker: &mut Maker, length: usize) -> Vec<Line> {
-    let mut texts: Vec<Vec<u8>> = [b'A', b'0', b'\t', b'\r', b' ', 0, 0xff]
-        .iter()
-        .map(|&fill| vec![fill; length])
-        .collect();
+    let mut texts: Vec<Vec<u8>> =
+        [b'A', b'0', b'\t', b'\r', b' ', 0, 0xff].iter().map(|&fill| vec![fill; length]).collect();
     texts.push(record(maker, length, [9, 9, 9]).text);
     let frame = records::clean(maker, 18).text;
     for start in [LONGEST_LINE, LONGEST_LINE + 1, length - frame.len()] {

@@ -1,24 +1,11 @@
-//! Runs the program that PROGRAM names on every kind of dump, and counts each kind and style as
-//! passed or failed.
-//!
-//! `dump [--seed N] [--rounds N] [--quick]`: with --quick few dumps, for tests/dump/planted.
+//! Runs the program that PROGRAM names on every kind of dump, and counts each kind and style as passed or failed. The flags are
+//! those of `Scale`.
 
-// Two files of tests/compare that need nothing of the engine.
-#[allow(dead_code)]
-#[path = "../../compare/src/bits.rs"]
-mod bits;
-#[allow(dead_code)]
-#[path = "../../compare/src/random.rs"]
-mod random;
-
-mod check;
 mod compare;
-mod coverage;
 mod ends;
 mod failing;
 mod headers;
 mod items;
-mod kind;
 mod kinds;
 mod long;
 mod memory;
@@ -29,106 +16,71 @@ mod print;
 mod process;
 mod records;
 mod said;
-mod shrink;
 mod speed;
 mod style;
 mod system;
-mod tally;
 mod text;
 mod watch;
 mod wrong;
 
-use check::{Check, Score};
-use compare::Sides;
-use kind::{Run, Scale};
+use compare::{maker, Found, Sides, Tally, WORDS};
 use process::Program;
 use second::Code;
-use std::process::exit;
-use tally::Tally;
+use shared::bits::{LONGEST, SHORTEST};
+use shared::run::Scale;
+use shared::score::{grouped, Score};
 use watch::Watch;
 
-const FLAGS: &str = "--seed N and --rounds N for other and more dumps, and --quick for few, as \
-                     tests/dump/planted wants them; PROGRAM names the program";
-
 fn main() {
-    let (scale, program) = flags().unwrap_or_else(|wrong| {
-        eprintln!("{}: the flags are {}", wrong, FLAGS);
-        println!("0 passed, 1 failed");
-        exit(1)
-    });
-    let code = Code::new();
-    let sides = Sides {
-        code: &code,
-        program: &program,
-    };
-    let mut score = Score::default();
-    let mut total = Tally::default();
+    let (scale, code) = (Scale::asked(), Code::new());
+    let path = std::env::var_os("PROGRAM").expect("PROGRAM names the program");
+    let program = Program { path, limits: Vec::new(), watch: Watch::start() };
+    let sides = Sides { code: &code, program: &program };
+    let (mut score, mut total) = (Score::default(), Tally::default());
+    let mut found: Vec<(String, Found)> = Vec::new();
     for kind in kinds::all() {
-        total.add(kind.run(&mut Run {
-            sides: &sides,
-            scale,
-            score: &mut score,
-        }));
+        total.add(kind.run(&sides, scale, &mut score, &mut found));
     }
     if !scale.quick {
-        coverage::checks(&total, 4000 * scale.rounds)
-            .iter()
-            .for_each(|check| score.count(check));
-        whole_runs(&sides, scale, &mut score);
+        coverage(&mut score, &total, 4000 * scale.rounds as u64);
     }
-    score.print_faults(&sides);
-    println!("{} passed, {} failed", score.passed, score.failed);
-    exit(if score.failed == 0 { 0 } else { 1 });
+    whole_runs(&sides, scale, &mut score);
+    // The smallest, and few of them: making one smaller may take a while.
+    found.sort_by_key(|(_, found)| found.dump.bytes().len());
+    for (name, found) in found.into_iter().take(3) {
+        println!("{}", print::found(&name, &sides.shrink(found)));
+    }
+    score.end()
 }
 
-fn flags() -> Result<(Scale, Program), String> {
-    let mut scale = Scale {
-        seed: 1,
-        rounds: 1,
-        quick: false,
+/// What must have been met somewhere in all dumps together; `drawn` of them or more were to be drawn at random.
+fn coverage(score: &mut Score, total: &Tally, drawn: u64) {
+    let dumps = total.of("drawn");
+    score.met("dumps drawn at random", dumps >= drawn, &format!("{} dumps", grouped(dumps)));
+    let words: Vec<String> = WORDS.iter().map(|word| format!("{} {}", word, grouped(total.of(word)))).collect();
+    let often = WORDS.iter().all(|word| total.of(word) >= 20);
+    score.met("each sort of report line", often, &words.join(", "));
+    let mut every = |name: &str, what: &str, low, high| {
+        let missing = total.missing(what, low..=high);
+        score.met(name, missing.is_none(), &missing.map_or(String::new(), |value| format!("{} was not met", value)));
     };
-    let mut flags = std::env::args().skip(1);
-    while let Some(flag) = flags.next() {
-        let mut number = || {
-            let text = flags.next().ok_or(format!("{} has no number", flag))?;
-            text.parse().map_err(|_| format!("{} {}", flag, text))
-        };
-        match flag.as_str() {
-            "--seed" => scale.seed = number()?,
-            "--rounds" => scale.rounds = number()? as usize,
-            "--quick" => scale.quick = true,
-            _ => return Err(flag),
-        }
-    }
-    if scale.rounds == 0 || scale.rounds > 1_000_000 {
-        return Err(format!("--rounds {}", scale.rounds));
-    }
-    let program = Program {
-        path: std::env::var_os("PROGRAM").ok_or("PROGRAM is not set")?,
-        limits: Vec::new(),
-        watch: Watch::start(),
-    };
-    Ok((scale, program))
+    every("records of every n", "n", SHORTEST, LONGEST);
+    every("record numbers of 1 to 9 digits", "digits", 1, 9);
+    let most = ["passes", "flips", "bad line"].map(|what| total.most(what));
+    let large = most[0] >= 10 && most[1] >= 1000 && most[2] >= 1_000_000;
+    score.met("passes of 2 digits, flips of 4, bad lines of 7", large, &most.map(grouped).join(", "));
 }
 
 /// What is not about single dumps.
 fn whole_runs(sides: &Sides, scale: Scale, score: &mut Score) {
     if sides.program.watch.gave_up() {
-        let fault = "not tried, since the program had to be stopped too often";
-        score.count(&Check::new("whole runs", fault, String::new()));
-        return;
+        return score.count("whole runs", "not tried, since the program had to be stopped too often", "");
     }
-    let mut maker = scale.maker(sides, "whole runs");
-    for check in output::checks(sides, &mut maker) {
-        score.count(&check);
+    let mut maker = maker(sides, scale, "whole runs");
+    failing::checks(sides, scale, score);
+    if !scale.quick {
+        output::checks(sides, &mut maker, score);
+        memory::checks(sides, &mut maker, score);
+        speed::check(sides, &mut maker, score);
     }
-    for check in failing::checks(sides, &mut maker) {
-        score.count(&check);
-    }
-    for check in memory::checks(sides, &mut maker) {
-        score.count(&check);
-    }
-    let (check, times) = speed::check(sides, &mut maker);
-    score.count(&check);
-    println!("time   {}", times);
 }

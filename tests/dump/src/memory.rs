@@ -1,12 +1,12 @@
 //! The program's memory does not grow with the dump.
 
-use crate::check::Check;
 use crate::compare::Sides;
-use crate::process::{read_all, Program};
+use crate::process::{read_all, Outcome, Program};
 use crate::records::{self, Maker};
 use crate::system;
 use crate::watch::pause;
 use second::dump::report_with;
+use shared::score::Score;
 use std::io::Write;
 use std::process::{ChildStdin, Stdio};
 use std::thread;
@@ -27,8 +27,7 @@ struct Parts<'a> {
 }
 
 struct Measured {
-    report: Vec<u8>,
-    wrong: Option<String>,
+    outcome: Outcome,
     /// The most memory that it had, resident and mapped, if it did not end before its input.
     peaks: Option<(usize, usize)>,
 }
@@ -62,12 +61,7 @@ fn measure(program: &Program, parts: &Parts) -> Measured {
         drop(pipe);
         (report.join().unwrap(), peaks)
     });
-    let outcome = program.outcome(&running, report);
-    Measured {
-        report: outcome.report,
-        wrong: outcome.wrong,
-        peaks,
-    }
+    Measured { outcome: program.outcome(&running, report), peaks }
 }
 
 /// With the most of a few peaks: what the system counts may lag behind by some pages.
@@ -98,80 +92,35 @@ fn block(maker: &mut Maker) -> Vec<u8> {
     texts.join(&b'\n')
 }
 
-/// What differs in a large run from a small one.
-fn fault(large: &Measured, small: &Measured, expected: &[u8]) -> String {
-    if let Some(wrong) = &large.wrong {
-        return wrong.clone();
-    }
-    if large.report != expected {
-        return "the report is another".to_string();
-    }
-    match (large.peaks, small.peaks) {
-        (Some(large), Some(small)) => {
-            let grown = |large: usize, small: usize| large > small + MOST_GROWTH;
-            if grown(large.0, small.0) || grown(large.1, small.1) {
-                "its memory has grown".to_string()
-            } else {
-                String::new()
-            }
-        }
-        _ => "its memory could not be measured".to_string(),
-    }
+/// A large run against a small one.
+fn check(score: &mut Score, name: &str, small: &Measured, large: &Measured, expected: &[u8]) {
+    let grown = |large: usize, small: usize| large > small + MOST_GROWTH;
+    let ((before, mapped_before), (after, mapped_after)) =
+        (small.peaks.unwrap_or_default(), large.peaks.unwrap_or_default());
+    let fault = match large.outcome.fault(expected) {
+        "" if small.peaks.and(large.peaks).is_none() => "its memory could not be measured",
+        "" if grown(after, before) || grown(mapped_after, mapped_before) => "its memory has grown",
+        fault => fault,
+    };
+    let counts = format!("resident {before} -> {after} KiB, mapped {mapped_before} -> {mapped_after} KiB");
+    score.count(name, fault, &counts);
 }
 
-fn check(name: &str, small: &Measured, large: &Measured, expected: &[u8]) -> Check {
-    let of = |measured: &Measured| measured.peaks.unwrap_or((0, 0));
-    let (before, after) = (of(small), of(large));
-    let counts = format!(
-        "resident {} -> {} KiB, mapped {} -> {} KiB",
-        before.0, after.0, before.1, after.1
-    );
-    Check::new(name, fault(large, small, expected), counts)
-}
-
-pub fn checks(sides: &Sides, maker: &mut Maker) -> Vec<Check> {
+pub fn checks(sides: &Sides, maker: &mut Maker, score: &mut Score) {
     let program = sides.program;
-    let block = block(maker);
-    let [once, many] = [1, LARGE / block.len() + 1].map(|times| Parts {
-        head: b"frames\t1\n",
-        block: &block,
-        times,
-    });
+    let (block, header) = (block(maker), &b"frames\t1\n"[..]);
+    let [once, many] = [1, LARGE / block.len() + 1].map(|times| Parts { head: header, block: &block, times });
     let small = measure_small(program, &once);
-    let mut checks = lines_of_all_sorts(sides, &small, &many);
+    let expected = report_with(sides.code, &[header, &block.repeat(many.times)].concat());
+    check(score, "64 MiB of lines of all sorts", &small, &measure(program, &many), &expected);
+    let limited = Program { limits: LIMITS.to_vec(), ..program.clone() };
+    let little = "64 MiB with a stack of 72 KiB, and 16 MiB in all";
+    check(score, little, &small, &measure(&limited, &many), &expected);
     let piece = vec![b'A'; 1 << 16];
-    let [endless, first] = [&b"frames\t1\n"[..], b""].map(|head| Parts {
-        head,
-        block: &piece,
-        times: LARGE / piece.len(),
-    });
-    let endless = measure(program, &endless);
-    let mut first = measure(program, &first);
+    let endless = |head| measure(program, &Parts { head, block: &piece, times: LARGE / piece.len() });
+    check(score, "a line of 64 MiB", &small, &endless(header), b"repair\t1\n?\t2\n");
+    let mut first = endless(b"");
     // It may end before its input does, as soon as the first line is too long.
     first.peaks = first.peaks.or(small.peaks);
-    let one_bad = b"repair\t1\n?\t2\n";
-    checks.push(check("a line of 64 MiB", &small, &endless, one_bad));
-    checks.push(check(
-        "a first line of 64 MiB",
-        &small,
-        &first,
-        b"bad header\n",
-    ));
-    checks
-}
-
-/// As it is, and with little memory to be had.
-fn lines_of_all_sorts(sides: &Sides, small: &Measured, parts: &Parts) -> Vec<Check> {
-    let whole = [parts.head, &parts.block.repeat(parts.times)].concat();
-    let expected = report_with(sides.code, &whole);
-    let limited = Program {
-        limits: LIMITS.to_vec(),
-        ..sides.program.clone()
-    };
-    let name = "64 MiB of lines of all sorts";
-    let little = "64 MiB with a stack of 72 KiB, and 16 MiB in all";
-    vec![
-        check(name, small, &measure(sides.program, parts), &expected),
-        check(little, small, &measure(&limited, parts), &expected),
-    ]
+    check(score, "a first line of 64 MiB", &small, &first, b"bad header\n");
 }

@@ -1,10 +1,10 @@
 //! Dumps of all sorts of lines.
 
-use crate::bits::{LONGEST, SHORTEST};
 use crate::long;
 use crate::records::{self, Maker};
 use crate::text::{Dump, Line};
 use crate::wrong;
+use shared::bits::{LONGEST, SHORTEST};
 
 /// Up to 24 lines, good and bad, and `bad` of the bad ones drawn from.
 pub fn mixed(maker: &mut Maker, bad: &[Line]) -> Dump {

@@ -1,7 +1,7 @@
 //! Dumps in which a place of a line lies just at, before or after a multiple of a buffer's size.
 
 use crate::records::{self, Maker};
-use crate::text::{Dump, Expect, Line, HEADER};
+use crate::text::{Dump, Line, HEADER};
 
 /// What lies there.
 #[derive(Clone, Copy)]
@@ -42,8 +42,7 @@ fn filler(maker: &mut Maker, mut bytes: usize) -> Vec<Line> {
         lines.push(match maker.random.below(3) {
             0 if length >= 6 && hex % 2 == 0 => {
                 let text = [&b"7\t0\t2\t"[..], &vec![b'C'; hex]].concat();
-                let expect = Expect::Exactly("7\trefused\t1\t0\t0\t0".to_string());
-                Line { text, expect }
+                Line::says(text, 7, "refused 1 0 0 0")
             }
             1 => Line::bad(vec![b'x'; length]),
             _ => Line::bad(vec![b'\t'; length]),

@@ -1,29 +1,7 @@
 //! The lines that are printed.
 
-use crate::compare::Fault;
-use std::fmt::Write;
-
-/// With a comma after each third digit.
-pub fn grouped(number: usize) -> String {
-    let digits = number.to_string();
-    let mut text = String::new();
-    for (index, digit) in digits.chars().enumerate() {
-        if index > 0 && (digits.len() - index) % 3 == 0 {
-            text.push(',');
-        }
-        text.push(digit);
-    }
-    text
-}
-
-/// One check, passed if there is no fault.
-pub fn line(name: &str, fault: &str, counts: &str) -> String {
-    if fault.is_empty() {
-        format!("ok     {:<66} {}", name, counts)
-    } else {
-        format!("FAILED {:<66} {}: {}", name, counts, fault)
-    }
-}
+use crate::compare::Found;
+use shared::score::grouped;
 
 /// From so many equal bytes on, they are printed as a count.
 const LONG_RUN: usize = 80;
@@ -80,20 +58,18 @@ fn report(bytes: &[u8], other: &[u8]) -> String {
     let begin = bytes[..same].iter().rposition(|&byte| byte == b'\n');
     let begin = begin.map_or(0, |end| end + 1);
     let part = &bytes[begin..bytes.len().min(begin + 200)];
-    let (size, part) = (grouped(bytes.len()), command(part));
+    let (size, part) = (grouped(bytes.len() as u64), command(part));
     format!("{} bytes, from line {} on: {}", size, lines + 1, part)
 }
 
 /// A dump as it can be tried again, and what each side said.
-pub fn fault(name: &str, fault: &Fault) -> String {
-    let bytes = fault.dump.bytes();
-    let cuts = fault.style.cuts(&bytes);
-    let mut text = format!("# smallest difference of {}: {}\n", name, fault.why);
-    if !cuts.is_empty() {
-        writeln!(text, "# reads end at the bytes {:?}", cuts).unwrap();
-    }
-    writeln!(text, "{}", command(&bytes)).unwrap();
-    writeln!(text, "#   program: {}", report(&fault.said, &fault.second)).unwrap();
-    write!(text, "#   second:  {}", report(&fault.second, &fault.said)).unwrap();
-    text
+pub fn found(name: &str, found: &Found) -> String {
+    let bytes = found.dump.bytes();
+    let cuts = match found.style.cuts(&bytes) {
+        cuts if cuts.is_empty() => String::new(),
+        cuts => format!("# reads end at the bytes {:?}\n", cuts),
+    };
+    let (said, second) = (report(&found.said, &found.second), report(&found.second, &found.said));
+    let (why, again) = (&found.why, command(&bytes));
+    format!("# smallest difference of {name}: {why}\n{cuts}{again}\n#   program: {said}\n#   second:  {second}")
 }

@@ -47,10 +47,7 @@ impl Program {
         command.env_clear();
         let set = |limit: &&str| format!("ulimit {} && ", limit);
         let limits: String = self.limits.iter().map(set).collect();
-        command
-            .arg("-c")
-            .arg(limits + "exec \"$0\"")
-            .arg(&self.path);
+        command.arg("-c").arg(limits + "exec \"$0\"").arg(&self.path);
         command
     }
 
@@ -61,12 +58,7 @@ impl Program {
         let mut child = started.expect("the program can be started");
         let (input, output) = (child.stdin.take(), child.stdout.take().unwrap());
         let process = child.id();
-        Running {
-            child: self.watch.add(child, time_for(size)),
-            input,
-            output,
-            process,
-        }
+        Running { child: self.watch.add(child, time_for(size)), input, output, process }
     }
 
     /// Standard input and standard output are files.
@@ -131,21 +123,23 @@ impl Program {
     pub fn outcome(&self, running: &Running, report: Vec<u8>) -> Outcome {
         let reads = system::reads(running.process);
         let status = self.watch.end(&running.child);
-        Outcome {
-            reads,
-            ..Outcome::new(report, status)
-        }
+        Outcome { reads, ..Outcome::new(report, status) }
     }
 }
 
 impl Outcome {
+    /// What is wrong, where this is the report that it should have written.
+    pub fn fault(&self, expected: &[u8]) -> &str {
+        match &self.wrong {
+            Some(wrong) => wrong,
+            None if self.report != expected => "the report is another",
+            None => "",
+        }
+    }
+
     pub fn new(report: Vec<u8>, status: ExitStatus) -> Outcome {
         let wrong = wrong_end(status);
-        Outcome {
-            report,
-            wrong,
-            reads: None,
-        }
+        Outcome { report, wrong, reads: None }
     }
 }
 
@@ -210,11 +204,7 @@ fn unnamed_file() -> io::Result<File> {
     let name = format!("dump-{}-{}", std::process::id(), count);
     let path = std::env::temp_dir().join(name);
     let mut options = File::options();
-    let file = options
-        .read(true)
-        .write(true)
-        .create_new(true)
-        .open(&path)?;
+    let file = options.read(true).write(true).create_new(true).open(&path)?;
     fs::remove_file(&path)?;
     Ok(file)
 }

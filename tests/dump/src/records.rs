@@ -1,24 +1,17 @@
 //! Lines that are records: good by their form, whatever becomes of them.
 
-use crate::bits::{
-    bytes_for, clear_spare_bits, flip_at, on_spare_bits, row_mut, square_bytes, wrong_bits,
-    CHECK_BITS, LONGEST, SHORTEST,
-};
-use crate::random::Random;
 use crate::text::{Expect, Line};
 use second::Code;
+use shared::bits::{bytes_for, follows, on_spare_bits, row_mut, square_bytes, Follows, LONGEST, SHORTEST};
+use shared::damage;
+use shared::random::Random;
+use shared::score::hex;
+use shared::written::{add_crossings, full_frame};
 
 /// What the makers of dumps draw from.
 pub struct Maker<'a> {
     pub code: &'a Code,
     pub random: Random,
-}
-
-pub fn hex(bytes: &[u8]) -> String {
-    const DIGITS: &[u8; 16] = b"0123456789ABCDEF";
-    let digit = |half: u8| char::from(DIGITS[usize::from(half)]);
-    let pair = |&byte: &u8| [digit(byte >> 4), digit(byte & 15)];
-    bytes.iter().flat_map(pair).collect()
 }
 
 pub fn text(number: usize, n: usize, allowance: usize, frame: &[u8]) -> Vec<u8> {
@@ -57,13 +50,7 @@ pub fn allowance(random: &mut Random) -> usize {
 
 /// A frame as it was written, of random data.
 pub fn written(maker: &mut Maker, n: usize) -> Vec<u8> {
-    let k = n - CHECK_BITS;
-    let mut data = maker.random.bytes(square_bytes(k));
-    clear_spare_bits(k, &mut data);
-    let mut frame = vec![0; square_bytes(n)];
-    let encoded = maker.code.encode(n, &data, &mut frame);
-    assert!(encoded.is_ok(), "good data of n = {} was not encoded", n);
-    frame
+    full_frame(maker.code, &mut maker.random, n).frame
 }
 
 /// The record of a frame that was `written`, and what follows from its rows' wrong bits.
@@ -73,20 +60,13 @@ fn received(maker: &mut Maker, n: usize, written: &[u8], mut frame: Vec<u8>) -> 
         on_spare_bits(n, &mut frame, |byte, mask| *byte |= mask & random.byte());
     }
     let (number, allowance) = (number(&mut maker.random), allowance(&mut maker.random));
-    let rows = wrong_bits(n, written, &frame);
-    let wrong: usize = rows.iter().sum();
-    let refused = rows.iter().filter(|&&count| count > 2).count();
-    let expect = if wrong == 0 {
-        Expect::Exactly(format!("{}\tclean\t0\t0\t0\t0", number))
-    } else if refused == 0 {
-        Expect::Exactly(format!("{}\trepaired\t1\t{}\t0\t0", number, wrong))
-    } else if refused <= 2 && allowance >= 2 {
-        Expect::Mended { number, wrong }
-    } else {
-        Expect::Ended { number, allowance }
-    };
     let text = text(number, n, allowance, &frame);
-    Line { text, expect }
+    match follows(n, allowance, written, &frame) {
+        Follows::Clean => Line::says(text, number, "clean 0 0 0 0"),
+        Follows::OnePass(wrong) => Line::says(text, number, &format!("repaired 1 {} 0 0", wrong)),
+        Follows::TwoPasses(wrong) => Line { text, expect: Expect::Mended { number, wrong } },
+        Follows::Nothing => Line { text, expect: Expect::Ended { number, allowance } },
+    }
 }
 
 pub fn clean(maker: &mut Maker, n: usize) -> Line {
@@ -99,13 +79,7 @@ pub fn within_promise(maker: &mut Maker, n: usize) -> Line {
     let frame = written(maker, n);
     let mut damaged = frame.clone();
     let random = &mut maker.random;
-    let most = random.within(0, 2);
-    for i in 0..n {
-        let wrong = random.within(0, most);
-        for j in random.distinct(wrong, n) {
-            flip_at(n, &mut damaged, i, j);
-        }
-    }
+    damage::few_in_each_row(random, n, &mut damaged);
     let lost = random.within(0, 2);
     for i in random.distinct(lost, n) {
         let row = row_mut(n, &mut damaged, i);
@@ -121,18 +95,11 @@ pub fn past_promise(maker: &mut Maker, n: usize) -> Line {
     let random = &mut maker.random;
     if random.once_in(2) {
         let count = random.within(1, 5 * n);
-        for place in random.distinct(count, n * n) {
-            flip_at(n, &mut damaged, place / n, place % n);
-        }
+        damage::wrong_bits(random, n, &mut damaged, count);
     } else {
         let (rows, columns) = (random.within(3, 6), random.within(3, 6));
         let (rows, columns) = (random.distinct(rows, n), random.distinct(columns, n));
-        for (&i, &j) in rows
-            .iter()
-            .flat_map(|i| columns.iter().map(move |j| (i, j)))
-        {
-            flip_at(n, &mut damaged, i, j);
-        }
+        add_crossings(n, &mut damaged, &rows, &columns);
     }
     received(maker, n, &frame, damaged)
 }
@@ -140,9 +107,7 @@ pub fn past_promise(maker: &mut Maker, n: usize) -> Line {
 pub fn random_frame(maker: &mut Maker, n: usize) -> Line {
     let frame = maker.random.bytes(square_bytes(n));
     let (number, allowance) = (number(&mut maker.random), allowance(&mut maker.random));
-    let text = text(number, n, allowance, &frame);
-    let expect = Expect::Ended { number, allowance };
-    Line { text, expect }
+    Line { text: text(number, n, allowance, &frame), expect: Expect::Ended { number, allowance } }
 }
 
 pub fn any_frame(maker: &mut Maker, n: usize) -> Line {
@@ -184,9 +149,7 @@ pub fn refused(maker: &mut Maker) -> Line {
         }
     };
     let frame = random.bytes(bytes);
-    let expect = Expect::Exactly(format!("{}\trefused\t{}\t0\t0\t0", record, why));
-    let text = text(record, n, allowance, &frame);
-    Line { text, expect }
+    Line::says(text(record, n, allowance, &frame), record, &format!("refused {} 0 0 0", why))
 }
 
 fn any_allowance(random: &mut Random) -> usize {

@@ -21,11 +21,7 @@ impl Said<'_> {
             *count = decimal(field)?;
         }
         let number = decimal(fields[0])?;
-        let said = Said {
-            number,
-            ending: fields[1],
-            counts,
-        };
+        let said = Said { number, ending: fields[1], counts };
         said.possible().then_some(said)
     }
 

@@ -1,14 +1,12 @@
 //! How long the program and the second program's library take. Nothing fails by it.
 
-use crate::bits::flip_at;
-use crate::check::Check;
 use crate::compare::Sides;
-use crate::print::grouped;
-use crate::process::Outcome;
 use crate::records::{self, Maker};
 use crate::style::Style;
 use crate::text::HEADER;
 use second::dump::report_with;
+use shared::damage::wrong_bits;
+use shared::score::{grouped, Score};
 use std::time::Instant;
 
 const FRAMES: usize = 1000;
@@ -20,9 +18,7 @@ fn dump(maker: &mut Maker) -> Vec<u8> {
     let mut bytes = HEADER.to_vec();
     for number in 0..FRAMES {
         let mut frame = records::written(maker, N);
-        for place in maker.random.distinct(WRONG, N * N) {
-            flip_at(N, &mut frame, place / N, place % N);
-        }
+        wrong_bits(&mut maker.random, N, &mut frame, WRONG);
         bytes.push(b'\n');
         bytes.extend(records::text(number, N, 8, &frame));
     }
@@ -31,42 +27,22 @@ fn dump(maker: &mut Maker) -> Vec<u8> {
 
 /// The least time of a few, in seconds, and what came out.
 fn best<T>(mut call: impl FnMut() -> T) -> (f64, T) {
-    let mut timed = || {
+    let timed = |_| {
         let start = Instant::now();
         let result = call();
         (start.elapsed().as_secs_f64(), result)
     };
-    let mut best = timed();
-    for _ in 1..TIMES {
-        let next = timed();
-        if next.0 < best.0 {
-            best = next;
-        }
-    }
-    best
+    (0..TIMES).map(timed).min_by(|a, b| a.0.total_cmp(&b.0)).unwrap()
 }
 
 /// Whether the reports are the same, and the times.
-pub fn check(sides: &Sides, maker: &mut Maker) -> (Check, String) {
+pub fn check(sides: &Sides, maker: &mut Maker, score: &mut Score) {
     let dump = dump(maker);
-    let (program, said): (f64, Outcome) = best(|| sides.program.run(&dump, Style::File));
+    let (program, said) = best(|| sides.program.run(&dump, Style::File));
     let (second, expected) = best(|| report_with(sides.code, &dump));
-    let fault = match said.wrong {
-        Some(wrong) => wrong,
-        None if said.report != expected => "the report is another".to_string(),
-        None => String::new(),
-    };
-    let name = format!(
-        "{} frames of {} bits, {} of them wrong",
-        grouped(FRAMES),
-        N,
-        WRONG
-    );
-    let in_frames = |seconds: f64| seconds * 1e6 / FRAMES as f64;
-    let times = format!(
-        "{}, best of {}: program {:.3} s ({:.0} us a frame), second {:.3} s ({:.0} us), ratio {:.1}",
-        name, TIMES, program, in_frames(program), second, in_frames(second), program / second
-    );
-    let counts = format!("{} bytes", grouped(dump.len()));
-    (Check::new(name, fault, counts), times)
+    let name = format!("{} frames of {} bits, {} of them wrong", grouped(FRAMES as u64), N, WRONG);
+    score.count(&name, said.fault(&expected), &format!("{} bytes", grouped(dump.len() as u64)));
+    let [ours, theirs] = [program, second]
+        .map(|seconds: f64| format!("{:.3} s ({:.0} us a frame)", seconds, seconds * 1e6 / FRAMES as f64));
+    println!("time   best of {}: program {}, second {}, ratio {:.1}", TIMES, ours, theirs, program / second);
 }

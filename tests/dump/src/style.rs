@@ -1,6 +1,6 @@
 //! In what pieces a program gets its input.
 
-use crate::random::Random;
+use shared::random::Random;
 
 #[derive(Clone, Copy, Debug, PartialEq, Eq)]
 pub enum Style {

@@ -2,6 +2,7 @@
 //! made, whatever the second program says.
 
 use crate::said::{self, Said};
+use std::ops::Range;
 
 /// What a line of the dump must give.
 #[derive(Clone)]
@@ -28,20 +29,26 @@ pub struct Line {
 
 impl Line {
     pub fn header() -> Line {
-        let text = HEADER.to_vec();
-        Line {
-            text,
-            expect: Expect::Header,
-        }
+        Line { text: HEADER.to_vec(), expect: Expect::Header }
     }
 
     pub fn bad(text: impl Into<Vec<u8>>) -> Line {
-        let (text, expect) = (text.into(), Expect::Bad);
-        Line { text, expect }
+        Line { text: text.into(), expect: Expect::Bad }
+    }
+
+    /// Its line of the report is a number, and these words.
+    pub fn says(text: Vec<u8>, number: usize, words: &str) -> Line {
+        let said = format!("{} {}", number, words).replace(' ', "\t");
+        Line { text, expect: Expect::Exactly(said) }
     }
 }
 
 pub const HEADER: &[u8] = b"frames\t1";
+
+/// The texts of a list, which has bars between them.
+pub fn texts(list: &'static [u8]) -> impl Iterator<Item = &'static [u8]> {
+    list.split(|&byte| byte == b'|')
+}
 
 #[derive(Clone)]
 pub struct Dump {
@@ -66,23 +73,14 @@ impl Dump {
 
     /// Any bytes at all. Nothing but the form is known of the report's lines.
     pub fn raw(bytes: &[u8]) -> Dump {
-        let mut lines: Vec<Line> = bytes
-            .split(|&byte| byte == b'\n')
-            .map(|text| Line {
-                text: text.to_vec(),
-                expect: Expect::Either,
-            })
-            .collect();
+        let line = |text: &[u8]| Line { text: text.to_vec(), expect: Expect::Either };
+        let mut lines: Vec<Line> = bytes.split(|&byte| byte == b'\n').map(line).collect();
         let closed = lines.last().map_or(false, |last| last.text.is_empty());
         if closed {
             lines.pop();
         }
         if let Some(first) = lines.first_mut() {
-            first.expect = if first.text == HEADER {
-                Expect::Header
-            } else {
-                Expect::Bad
-            };
+            first.expect = if first.text == HEADER { Expect::Header } else { Expect::Bad };
         }
         Dump { lines, closed }
     }
@@ -98,10 +96,10 @@ impl Dump {
         bytes
     }
 
-    /// The dump without the lines `from..to`.
-    pub fn without(&self, from: usize, to: usize) -> Dump {
+    /// The dump without some lines.
+    pub fn without(&self, run: Range<usize>) -> Dump {
         let mut lines = self.lines.clone();
-        lines.drain(from..to);
+        lines.drain(run);
         Dump::new(lines, self.closed)
     }
 
@@ -122,10 +120,7 @@ impl Dump {
         };
         if lines.len() != self.lines.len() {
             let (is, should) = (lines.len(), self.lines.len());
-            return Some(format!(
-                "the report has {} lines, the dump has {}",
-                is, should
-            ));
+            return Some(format!("the report has {} lines, the dump has {}", is, should));
         }
         for (index, (line, said)) in self.lines.iter().zip(lines).enumerate() {
             if !kept(line, index + 1, said) {

@@ -52,10 +52,7 @@ impl Watch {
 
     pub fn add(&self, child: Child, limit: Duration) -> Arc<Mutex<Child>> {
         let child = Arc::new(Mutex::new(child));
-        self.running.lock().unwrap().push(Watched {
-            deadline: Instant::now() + limit,
-            child: Arc::clone(&child),
-        });
+        self.running.lock().unwrap().push(Watched { deadline: Instant::now() + limit, child: Arc::clone(&child) });
         child
     }
 

@@ -1,141 +1,25 @@
 //! Lines that are bad by their form, each in one way.
 
-use crate::records::{self, hex, Maker};
-use crate::text::{Line, HEADER};
+use crate::records::{self, Maker};
+use crate::text::{texts, Line, HEADER};
+use shared::score::hex;
 
 /// A field that should be a decimal number of 1 to 9 digits.
-const DECIMALS: [&[u8]; 48] = [
-    b"",
-    b"00",
-    b"01",
-    b"02",
-    b"007",
-    b"018",
-    b"000000000",
-    b"000000001",
-    b"0000000018",
-    b"1000000000",
-    b"1234567890",
-    b"0000000000",
-    b"9999999999",
-    b"4294967296",
-    b"4294967314",
-    b"18446744073709551616",
-    b"18446744073709551634",
-    b"+1",
-    b"-1",
-    b"-0",
-    b"+0",
-    b" 1",
-    b"1 ",
-    b" ",
-    b"1 8",
-    b"1.",
-    b"1.0",
-    b".1",
-    b"1e1",
-    b"1,0",
-    b"1_8",
-    b"0x12",
-    b"12h",
-    b"A",
-    b"1A",
-    b"a",
-    b"F",
-    b"/",
-    b":",
-    b"1/",
-    b"1:",
-    b"/1",
-    b":1",
-    b"\0",
-    b"18\0",
-    b"\xb2",
-    b"1\xff",
-    "１８".as_bytes(),
-];
+const DECIMALS: &[u8] =
+    b"|00|01|02|007|018|000000000|000000001|0000000018|1000000000|1234567890|0000000000|9999999999|4294967296|\
+    4294967314|18446744073709551616|18446744073709551634|+1|-1|-0|+0| 1|1 | |1 8|1.|1.0|.1|1e1|1,0|1_8|0x12|12h|A|\
+    1A|a|F|/|:|1/|1:|/1|:1|\0|18\0|\xb2|1\xff|\xef\xbc\x91\xef\xbc\x98";
 
 /// A field that should be an even number of hex digits, all of them of upper case.
-const HEXES: [&[u8]; 40] = [
-    b"A",
-    b"0",
-    b"ABC",
-    b"000",
-    b"ab",
-    b"aB",
-    b"Ab",
-    b"0a",
-    b"f0",
-    b"0x00",
-    b"0X",
-    b"G0",
-    b"0G",
-    b"@0",
-    b"0@",
-    b"`0",
-    b"0`",
-    b"g0",
-    b"0g",
-    b"/0",
-    b"0/",
-    b":0",
-    b"0:",
-    b" 0",
-    b"0 ",
-    b"00 ",
-    b" 00",
-    b"0 0",
-    b"00  ",
-    b"-0",
-    b"+0",
-    b"\0\0",
-    b"0\0",
-    b"\r0",
-    b"00\r",
-    b"\x800",
-    b"0\xc1",
-    b"\xb00",
-    "Ａ0".as_bytes(),
-    b"00,00",
-];
+const HEXES: &[u8] =
+    b"A|0|ABC|000|ab|aB|Ab|0a|f0|0x00|0X|G0|0G|@0|0@|`0|0`|g0|0g|/0|0/|:0|0:| 0|0 |00 | 00|0 0|00  |-0|+0|\0\0|0\0|\
+    \r0|00\r|\x800|0\xc1|\xb00|\xef\xbc\xa10|00,00";
 
 /// Whole lines.
-const LINES: [&[u8]; 34] = [
-    b"",
-    b" ",
-    b"\t",
-    b"\t\t",
-    b"\t\t\t",
-    b"\t\t\t\t",
-    b"\r",
-    b"\r\r",
-    b"\0",
-    b"\x0b",
-    b"\x0c",
-    b"\x1a",
-    b"\x7f",
-    b"?",
-    b"?\t2",
-    b"0",
-    b"0\t",
-    b"0\t18",
-    b"0\t18\t",
-    b"0\t18\t2",
-    b"0 18 2 ",
-    b"0\t18\t2\t\t",
-    b"0\t18\t2\t\r",
-    b"0\t18\t2\t\0",
-    b"0\t18\t2 ",
-    b"0\t18\t\t",
-    b"\t18\t2\t",
-    b"0\t\t2\t",
-    b"frames",
-    b"frames\t2",
-    b"repair\t1",
-    b"bad header",
-    b"\xef\xbb\xbf",
-    b"\xef\xbb\xbf0\t18\t2\t",
-];
+const LINES: &[u8] =
+    b"| |\t|\t\t|\t\t\t|\t\t\t\t|\r|\r\r|\0|\x0b|\x0c|\x1a|\x7f|?|?\t2|0|0\t|0\t18|0\t18\t|0\t18\t2|0 18 2 |\
+    0\t18\t2\t\t|0\t18\t2\t\r|0\t18\t2\t\0|0\t18\t2 |0\t18\t\t|\t18\t2\t|0\t\t2\t|frames|frames\t2|repair\t1|\
+    bad header|\xef\xbb\xbf|\xef\xbb\xbf0\t18\t2\t";
 
 fn join(fields: &[&[u8]]) -> Vec<u8> {
     fields.join(&b'\t')
@@ -153,7 +37,7 @@ fn in_a_field(maker: &mut Maker, lines: &mut Vec<Line>) {
     let good = good_fields(maker);
     let good: Vec<&[u8]> = good.iter().map(|field| &field[..]).collect();
     for index in 0..3 {
-        for wrong in DECIMALS {
+        for wrong in texts(DECIMALS) {
             let mut fields = good.clone();
             fields[index] = wrong;
             lines.push(Line::bad(join(&fields)));
@@ -164,13 +48,10 @@ fn in_a_field(maker: &mut Maker, lines: &mut Vec<Line>) {
         fields[index] = &zero;
         lines.push(Line::bad(join(&fields)));
     }
-    for wrong in HEXES {
+    for wrong in texts(HEXES) {
         lines.push(Line::bad(join(&[good[0], good[1], good[2], wrong])));
         // The frame but for its first digits, or but for its last.
-        let (early, late) = (
-            [wrong, &good[3][2..]].concat(),
-            [&good[3][..good[3].len() - 2], wrong].concat(),
-        );
+        let (early, late) = ([wrong, &good[3][2..]].concat(), [&good[3][..good[3].len() - 2], wrong].concat());
         for hex in [early, late] {
             lines.push(Line::bad(join(&[good[0], good[1], good[2], &hex])));
         }
@@ -188,17 +69,13 @@ fn between_fields(maker: &mut Maker, lines: &mut Vec<Line>) {
         lines.push(Line::bad(join(&good[..count])));
         lines.push(Line::bad(join(&good[4 - count..])));
     }
-    for more in [
-        "\t", "\t0", "\t00", " ", "  ", "\r", "\0", "\u{feff}", "\u{a0}", "\u{85}", ";",
-    ] {
+    for more in ["\t", "\t0", "\t00", " ", "  ", "\r", "\0", "\u{feff}", "\u{a0}", "\u{85}", ";"] {
         lines.push(Line::bad([&whole[..], more.as_bytes()].concat()));
         lines.push(Line::bad([more.as_bytes(), &whole[..]].concat()));
     }
     for index in 0..3 {
         let (left, right) = (join(&good[..=index]), join(&good[index + 1..]));
-        for part in [
-            "", " ", "  ", "\t\t", "\t ", " \t", ",", ";", "\r", "\t\r", "\\t", "\x0b",
-        ] {
+        for part in ["", " ", "  ", "\t\t", "\t ", " \t", ",", ";", "\r", "\t\r", "\\t", "\x0b"] {
             lines.push(Line::bad([&left[..], part.as_bytes(), &right[..]].concat()));
         }
     }
@@ -207,7 +84,7 @@ fn between_fields(maker: &mut Maker, lines: &mut Vec<Line>) {
 
 /// All ways, each once.
 pub fn all(maker: &mut Maker) -> Vec<Line> {
-    let mut lines: Vec<Line> = LINES.iter().map(|&text| Line::bad(text)).collect();
+    let mut lines: Vec<Line> = texts(LINES).map(Line::bad).collect();
     in_a_field(maker, &mut lines);
     between_fields(maker, &mut lines);
     lines
@@ -219,22 +96,14 @@ pub fn every_byte_at(maker: &mut Maker, place: usize) -> Option<Vec<Line>> {
     let frame = records::written(maker, 18);
     let good = records::text(120, 18, 32, &frame);
     let fields = good.len() - 2 * frame.len();
-    let places: Vec<usize> = (0..fields + 4)
-        .chain(good.len() - 3..good.len() + 1)
-        .collect();
+    let places: Vec<usize> = (0..fields + 4).chain(good.len() - 3..good.len() + 1).collect();
     let &place = places.get(place)?;
     let in_frame = place >= fields;
     let mut lines = Vec::new();
     for byte in (0..=255).filter(|&byte| byte != b'\n') {
         let digit = byte.is_ascii_digit();
         let upper = digit || (b'A'..=b'F').contains(&byte);
-        if place < good.len()
-            && !(if in_frame {
-                upper
-            } else {
-                digit && good[place] != b'\t'
-            })
-        {
+        if place < good.len() && !(if in_frame { upper } else { digit && good[place] != b'\t' }) {
             let mut text = good.clone();
             text[place] = byte;
             if text != good {

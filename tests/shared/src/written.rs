@@ -36,6 +36,14 @@ pub fn frame_of(code: &Code, n: usize, data: Vec<u8>) -> Written {
     Written { data, frame }
 }
 
+/// A frame of random data.
+pub fn full_frame(code: &Code, random: &mut Random, n: usize) -> Written {
+    let k = n - CHECK_BITS;
+    let mut data = random.bytes(square_bytes(k));
+    clear_spare_bits(k, &mut data);
+    frame_of(code, n, data)
+}
+
 pub fn frame(code: &Code, random: &mut Random, n: usize) -> Written {
     let data = data(random, n);
     frame_of(code, n, data)
@@ -46,11 +54,7 @@ pub fn codeword_of(code: &Code, n: usize, mut data: Vec<u8>) -> Vec<u8> {
     clear_spare_bits(n - CHECK_BITS, &mut data);
     let mut word = vec![0; bytes_for(n)];
     let encoded = code.encode_word(n, &data, &mut word);
-    assert!(
-        encoded.is_ok(),
-        "good data of a word of {} was not encoded",
-        n
-    );
+    assert!(encoded.is_ok(), "good data of a word of {} was not encoded", n);
     word
 }
 

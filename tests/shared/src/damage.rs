@@ -11,6 +11,15 @@ pub fn wrong_bits(random: &mut Random, n: usize, frame: &mut [u8], count: usize)
     }
 }
 
+/// Up to two wrong bits in each row, or fewer.
+pub fn few_in_each_row(random: &mut Random, n: usize, frame: &mut [u8]) {
+    let most = random.within(0, 2);
+    for i in 0..n {
+        let wrong = random.within(0, most);
+        random.distinct(wrong, n).into_iter().for_each(|j| flip_at(n, frame, i, j));
+    }
+}
+
 /// What a lost row or column turns into.
 #[derive(Clone, Copy)]
 pub enum Loss {
@@ -108,11 +117,7 @@ pub fn chain(random: &mut Random, n: usize, frame: &mut [u8], length: usize) {
     for link in 0..length {
         for next in [link + 1, link + 3] {
             if next < length {
-                let (even, odd) = if link % 2 == 0 {
-                    (link, next)
-                } else {
-                    (next, link)
-                };
+                let (even, odd) = if link % 2 == 0 { (link, next) } else { (next, link) };
                 flip_at(n, frame, rows[even / 2], columns[odd / 2]);
             }
         }

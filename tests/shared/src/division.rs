@@ -1,8 +1,6 @@
 //! Codewords and frames of document 01 by long division, apart from both sides.
 
-use crate::bits::{
-    bit, bytes_for, clear_spare_bits, has_spare_bits, row, square_bytes, CHECK_BITS,
-};
+use crate::bits::{bit, bytes_for, clear_spare_bits, has_spare_bits, row, square_bytes, CHECK_BITS};
 
 /// The powers of z in g.
 const G: [usize; 11] = [16, 14, 13, 11, 10, 9, 8, 6, 5, 1, 0];
@@ -23,9 +21,7 @@ pub fn is_frame_of(n: usize, data: &[u8], frame: &[u8]) -> bool {
         return false;
     }
     let bit = |i: usize, j: usize| bit(row(n, frame, i), j);
-    corner(n, frame) == data
-        && are_codewords(slices(n, bit))
-        && are_codewords(slices(n, |j, i| bit(i, j)))
+    corner(n, frame) == data && are_codewords(slices(n, bit)) && are_codewords(slices(n, |j, i| bit(i, j)))
 }
 
 fn corner(n: usize, frame: &[u8]) -> Vec<u8> {
@@ -93,19 +89,13 @@ impl Places {
         for (place, &remainder) in remainders.iter().enumerate() {
             places[remainder] = Some(place);
         }
-        Places {
-            n,
-            remainders,
-            places,
-        }
+        Places { n, remainders, places }
     }
 
     /// The two places that make a codeword of six ones out of these four, if there are any. If not,
     /// no codeword is within two of the four: none but zero has fewer ones than six.
     pub fn other_two(&self, four: &[usize]) -> Option<(usize, usize)> {
-        let sum = four
-            .iter()
-            .fold(0, |sum, &place| sum ^ self.remainders[place]);
+        let sum = four.iter().fold(0, |sum, &place| sum ^ self.remainders[place]);
         (0..self.n).find_map(|fifth| {
             let sixth = self.places[sum ^ self.remainders[fifth]]?;
             Some((fifth, sixth))

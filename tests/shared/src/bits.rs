@@ -80,3 +80,24 @@ pub fn wrong_bits(n: usize, written: &[u8], received: &[u8]) -> Vec<usize> {
     clear_spare_bits(n, &mut damage);
     damage.chunks_exact(bytes_for(n)).map(ones).collect()
 }
+
+/// What follows for decode from the rows' numbers of wrong bits.
+pub enum Follows {
+    Clean,
+    /// So many wrong bits, all mended in one pass over rows.
+    OnePass(usize),
+    /// So many wrong bits, three or more of them in one row or in each of two: two passes mend them.
+    TwoPasses(usize),
+    Nothing,
+}
+
+pub fn follows(n: usize, allowance: usize, written: &[u8], received: &[u8]) -> Follows {
+    let rows = wrong_bits(n, written, received);
+    let wrong: usize = rows.iter().sum();
+    match rows.iter().filter(|&&count| count > 2).count() {
+        0 if wrong == 0 => Follows::Clean,
+        0 => Follows::OnePass(wrong),
+        1 | 2 if allowance >= 2 => Follows::TwoPasses(wrong),
+        _ => Follows::Nothing,
+    }
+}
