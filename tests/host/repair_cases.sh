@@ -1,11 +1,11 @@
 # shellcheck shell=bash
 # repair_frame as a program: its exit status, its sentence, and what is in the output file. Sourced by run.
-work=${room:?}/repair
-mkdir -p "$work/folder"
+files=${work:?}/repair
+mkdir -p "$files/folder"
 
 zeros() { head -c "$1" /dev/zero; }
 frame18() { # FILE BYTES: as printf has them, then zeros up to a frame of 18
-    { printf '%b' "$2" && zeros 54; } | head -c 54 >"$work/$1"
+    { printf '%b' "$2" && zeros 54; } | head -c 54 >"$files/$1"
 }
 frame18 a ''
 frame18 spare '\x00\x00\x20'
@@ -13,32 +13,32 @@ frame18 one '\x00\x00\x40'
 frame18 b '\xC0'
 frame18 c '\xFF\xFF\xC0\xFF\xFF\xC0'
 frame18 d '\xE0\x00\x00\xE0\x00\x00\xE0'
-zeros 0 >"$work/empty"
-zeros 53 >"$work/short"
-zeros 55 >"$work/long"
-zeros 8192 >"$work/a256"
-zeros 8193 >"$work/long256"
-zeros 100000 >"$work/huge"
-echo 'was here before' >"$work/before"
-ln -s b "$work/link"
-inputs=$(cd "$work" && cksum -- *[!r]) # all but the folder
+zeros 0 >"$files/empty"
+zeros 53 >"$files/short"
+zeros 55 >"$files/long"
+zeros 8192 >"$files/a256"
+zeros 8193 >"$files/long256"
+zeros 100000 >"$files/huge"
+echo 'was here before' >"$files/before"
+ln -s b "$files/link"
+inputs=$(cd "$files" && cksum -- *[!r]) # all but the folder
 
 # Runs it in the folder of the frames. OUTPUT is the file that `out` must equal then, or '-' if there must be none.
 repair() { # WHAT STATUS SENTENCE OUTPUT WORD...
     local what=$1 status=$2 sentence=$3 output=$4 said got wrong=''
     shift 4
-    said=$(cd "$work" && ../repair_frame "$@" 2>../repair.err)
+    said=$(cd "$files" && ../repair_frame "$@" 2>../repair.err)
     got=$?
     [ "$got" = "$status" ] || wrong+=" status $got, not $status;"
     [ "$said" = "$sentence" ] || wrong+=" '$said', not '$sentence';"
-    [ -n "$said" ] || [ -s "$room/repair.err" ] || wrong+=" no word of what was wrong;"
+    [ -n "$said" ] || [ -s "$work/repair.err" ] || wrong+=" no word of what was wrong;"
     if [ "$output" = - ]; then
-        [ ! -e "$work/out" ] || wrong+=" a file out is there;"
+        [ ! -e "$files/out" ] || wrong+=" a file out is there;"
     else
-        cmp -s "$work/out" "$work/$output" || wrong+=" the file out is not as $output;"
+        cmp -s "$files/out" "$files/$output" || wrong+=" the file out is not as $output;"
     fi
-    [ ! -e "$work/out.part" ] || wrong+=" out.part is left behind;"
-    rm -f "$work/out" "$work/out.part"
+    [ ! -e "$files/out.part" ] || wrong+=" out.part is left behind;"
+    rm -f "$files/out" "$files/out.part"
     if [ -z "$wrong" ]; then ok "repair_frame $*: $what"; else bad "repair_frame $*: $what:$wrong"; fi
 }
 unmended='left that are not codewords, nothing written'
@@ -54,9 +54,9 @@ repair 'item B' 0 'repaired in 1 pass, 2 bits flipped' a b out 18 1
 repair 'item C' 0 'repaired in 2 passes, 36 bits flipped' a c out 18
 repair 'item C, allowance 1' 1 "spent after 1 pass: 2 rows and 18 columns $unmended" - c out 18 1
 repair 'item D' 1 "stuck after 2 passes: 3 rows and 3 columns $unmended" - d out 18
-cp "$work/before" "$work/out"
+cp "$files/before" "$files/out"
 repair 'an output that is there is replaced' 0 'repaired in 1 pass, 2 bits flipped' a b out 18
-cp "$work/before" "$work/out"
+cp "$files/before" "$files/out"
 repair 'and kept where nothing is repaired' 1 "stuck after 2 passes: 3 rows and 3 columns $unmended" before d out 18 32
 repair 'n' 2 "$bad_n" - b out 17
 repair 'n' 2 "$bad_n" - b out 257
@@ -81,28 +81,28 @@ repair 'a folder as input' 3 '' - folder out 18
 repair 'no such folder' 3 '' - b nowhere/out 18
 repair 'a folder as output' 3 '' - b folder 18
 if [ "$(id -u)" != 0 ]; then # root may write everywhere
-    chmod 555 "$work/folder"
+    chmod 555 "$files/folder"
     repair 'a folder that is not to be written' 3 '' - b folder/out 18
-    chmod 755 "$work/folder"
+    chmod 755 "$files/folder"
 fi
 if (trap '' XFSZ && ulimit -f 0) 2>/dev/null; then
-    (cd "$work" && trap '' XFSZ && ulimit -f 0 && ../repair_frame b out 18 2>&1) | grep -qF 'cannot write out.part'
+    (cd "$files" && trap '' XFSZ && ulimit -f 0 && ../repair_frame b out 18 2>&1) | grep -qF 'cannot write out.part'
     both=${PIPESTATUS[*]}
-    if [ "$both" = '3 0' ] && [ ! -e "$work/out" ] && [ ! -e "$work/out.part" ]; then
+    if [ "$both" = '3 0' ] && [ ! -e "$files/out" ] && [ ! -e "$files/out.part" ]; then
         ok 'repair_frame where no byte can be written: status 3, and no file is left'
     else
-        bad "repair_frame where no byte can be written: status $both, $(cd "$work" && echo out*)"
+        bad "repair_frame where no byte can be written: status $both, $(cd "$files" && echo out*)"
     fi
 fi
-echo 'of another' >"$work/out.part"
-(cd "$work" && ../repair_frame b out 18) >/dev/null 2>&1
-if [ $? = 3 ] && [ "$(cat "$work/out.part")" = 'of another' ] && [ ! -e "$work/out" ]; then
+echo 'of another' >"$files/out.part"
+(cd "$files" && ../repair_frame b out 18) >/dev/null 2>&1
+if [ $? = 3 ] && [ "$(cat "$files/out.part")" = 'of another' ] && [ ! -e "$files/out" ]; then
     ok 'repair_frame where out.part is there already: status 3, and it is kept'
 else
     bad 'repair_frame where out.part is there already'
 fi
-rm -f "$work/out.part"
-if [ "$(cd "$work" && cksum -- *[!r])" = "$inputs" ]; then
+rm -f "$files/out.part"
+if [ "$(cd "$files" && cksum -- *[!r])" = "$inputs" ]; then
     ok 'repair_frame: no input changed'
 else
     bad 'repair_frame: an input changed'

@@ -14,9 +14,9 @@ int main(void)
         printf("FAILED lib/bch.c takes other parameters\n");
         return 1;
     }
-    bool good = compare_field(bch);
-    good = compare_checks(bch) && good;
-    good = compare_places(bch) && good;
+    compare_field(bch);
+    compare_checks(bch);
+    compare_places(bch);
     bch_free(bch);
-    return good ? 0 : 1;
+    return sum_up();
 }

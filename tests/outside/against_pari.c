@@ -79,13 +79,13 @@ static bool compare_line(const char *line)
 int main(void)
 {
     char line[LINE];
-    bool more = true, good = true;
+    bool more = true;
     while (more) {
         if (fgets(line, sizeof line, stdin) == NULL)
             not_understood("it ends early");
         more = compare_line(line);
     }
     for (int kind = 0; kind < KINDS; kind++)
-        good = tell(&kinds[kind]) && good;
-    return good ? 0 : 1;
+        tell(&kinds[kind]);
+    return sum_up();
 }

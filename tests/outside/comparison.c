@@ -6,6 +6,8 @@
 
 enum { SHOWN = 3 };
 
+static unsigned passed, failed;
+
 bool differs(struct comparison *kind, bool same)
 {
     kind->cases++;
@@ -31,12 +33,18 @@ void show_number(const char *who, unsigned long number)
     printf("    %-11s %lu\n", who, number);
 }
 
-bool tell(const struct comparison *kind)
+void tell(const struct comparison *kind)
 {
     bool good = kind->cases > 0 && kind->differences == 0;
-    printf("%s %s: %lu %s", good ? "ok  " : "FAILED", kind->subject, kind->cases, kind->what);
+    good ? passed++ : failed++;
+    printf("%s: %s: %lu %s", good ? "ok" : "FAILED", kind->subject, kind->cases, kind->what);
     if (kind->differences > 0)
         printf(": %lu differ", kind->differences);
     putchar('\n');
-    return good;
+}
+
+int sum_up(void)
+{
+    printf("%u passed, %u failed\n", passed, failed);
+    return failed == 0 && passed > 0 ? 0 : 1;
 }

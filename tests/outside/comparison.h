@@ -19,7 +19,10 @@ bool differs(struct comparison *kind, bool same);
 void show_word(const char *who, size_t n, const uint8_t *word);
 void show_number(const char *who, unsigned long number);
 
-/* Prints the line. True where there were cases and none differs. */
-bool tell(const struct comparison *kind);
+/* Prints the line, and counts it as passed where there were cases and none differs. */
+void tell(const struct comparison *kind);
+
+/* Prints 'N passed, M failed' over those lines; the exit status. */
+int sum_up(void);
 
 #endif

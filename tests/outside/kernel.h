@@ -14,8 +14,8 @@ enum {
 /* The codeword of n bits with these data bits: the checks by the kernel, the last bit makes the number of ones even. */
 void kernel_word(struct bch_control *bch, size_t n, const uint8_t *data, uint8_t *word);
 
-bool compare_field(struct bch_control *bch);
-bool compare_checks(struct bch_control *bch);
-bool compare_places(struct bch_control *bch);
+void compare_field(struct bch_control *bch);
+void compare_checks(struct bch_control *bch);
+void compare_places(struct bch_control *bch);
 
 #endif

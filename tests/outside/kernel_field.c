@@ -3,7 +3,7 @@
 
 #include "code.h"
 
-bool compare_field(struct bch_control *bch)
+void compare_field(struct bch_control *bch)
 {
     struct comparison powers = {"field", "powers of a against lib/bch.c", 0, 0};
     struct comparison logarithms = {"field", "logarithms against lib/bch.c", 0, 0};
@@ -20,6 +20,6 @@ bool compare_field(struct bch_control *bch)
             show_number("ours", logarithm);
         }
     }
-    bool good = tell(&powers);
-    return tell(&logarithms) && good;
+    tell(&powers);
+    tell(&logarithms);
 }

@@ -138,13 +138,13 @@ static void compare_others(struct bch_control *bch, size_t n)
     }
 }
 
-bool compare_places(struct bch_control *bch)
+void compare_places(struct bch_control *bch)
 {
     for (size_t bytes = SHORTEST_BYTES_OF_DATA; bytes <= LONGEST_BYTES_OF_DATA; bytes++) {
         compare_every_pair(bch, 8 * bytes + BESIDE_DATA);
         compare_others(bch, 8 * bytes + BESIDE_DATA);
     }
-    bool good = tell(&one);
-    good = tell(&two) && good;
-    return tell(&other) && good;
+    tell(&one);
+    tell(&two);
+    tell(&other);
 }
