@@ -5,19 +5,15 @@
 #include <stdbool.h>
 #include <stdint.h>
 
+/* Ends the group before it, if there is one, and begins the next. */
 void begin_group(const char *name);
-void end_group(void);
 
-/* The call that the next checks are about; it is printed where one fails. */
-void note_call(const char *format, ...);
-const char *noted_call(void);
+/* Counts a check. Where it fails, what is expected is printed, and the call that was described last. */
+#define EXPECT(expression) expect(expression, #expression)
+void expect(bool holds, const char *expression);
+void describe(const char *format, ...);
 
-void expect_that(bool holds, const char *expression, const char *file, int line);
-void expect_equal(uint64_t value, uint64_t expected, const char *expression, const char *file, int line);
-#define EXPECT(expression) expect_that(expression, #expression, __FILE__, __LINE__)
-#define EXPECT_EQUAL(expression, expected) expect_equal(expression, expected, #expression, __FILE__, __LINE__)
-
-/* Prints 'N passed, M failed' over the groups; the exit status. */
-int sum_up(void);
+/* The constants and the inline functions of gazenohyri.h. */
+void header_values(void);
 
 #endif

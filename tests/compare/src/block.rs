@@ -10,6 +10,7 @@ use shared::division::{is_codeword, is_frame_of};
 use shared::random::Random;
 use shared::run::{on_all, Scale};
 use shared::written::{self, Written};
+use std::io::Write;
 use std::ops::RangeInclusive;
 
 pub type Tally = shared::tally::Tally<Found>;
@@ -33,6 +34,13 @@ impl Kind {
         self.answers.split_whitespace()
     }
 
+    /// Writes a few cases of one word length, and the second program's answers, which keep their promises.
+    pub fn write(&self, code: &Code, n: usize, count: usize, sink: &mut dyn Write) {
+        let random = Scale { seed: 1, rounds: 1, quick: true }.random(self.name, &[n as u64]);
+        let count = count.min(self.count);
+        (self.make)(&mut Block { code, random, n, count, quick: true, tally: Tally::default(), sink: Some(sink) });
+    }
+
     /// Makes and checks all cases.
     pub fn run(&self, code: &Code, scale: Scale) -> Tally {
         // The long words first, since they take longest.
@@ -42,7 +50,7 @@ impl Kind {
             let (n, round) = (lengths[index % lengths.len()], index / lengths.len());
             let random = scale.random(self.name, &[round as u64, n as u64]);
             let count = if scale.quick { (self.count + 15) / 16 } else { self.count };
-            let mut block = Block { code, random, n, count, quick: scale.quick, tally: Tally::default() };
+            let mut block = Block { code, random, n, count, quick: scale.quick, tally: Tally::default(), sink: None };
             (self.make)(&mut block);
             tally.add(block.tally);
             true
@@ -57,6 +65,8 @@ pub struct Block<'a> {
     pub count: usize,
     pub quick: bool,
     tally: Tally,
+    /// Where the cases go, if they are not put to the proved engine here.
+    pub sink: Option<&'a mut dyn Write>,
 }
 
 impl Block<'_> {
@@ -103,6 +113,11 @@ impl Block<'_> {
             "smallest difference of Read",
             "smallest difference of Row",
         ];
+        if let Some(sink) = &mut self.sink {
+            let said = case.second(self.code);
+            assert!(promise.kept(&said), "the second program does not keep a promise: {:?}", case);
+            return case.write(&said, sink).expect("a case can be written");
+        }
         let (proved, second) = (case.proved(), case.second(self.code));
         self.note(&case, &proved, written);
         if !matches!(promise, Promise::None) {

@@ -3,6 +3,7 @@
 use second::{Answer, Code, Refusal, Report};
 use shared::bits::ones;
 use shared::random::Random;
+use std::io::{self, Write};
 
 /// The proved engine, behind its C interface. A call lends two buffers that do not overlap, and the engine keeps neither.
 mod proved {
@@ -118,6 +119,24 @@ impl Case {
         let mut output = self.output.clone();
         let result = self.call_second(code, &mut output);
         Said { result, output, stray: false }
+    }
+
+    /// As tests/host/replay.c reads it: seven numbers, the input, and the output where it is touched. No word and no row.
+    pub fn write(&self, said: &Said, sink: &mut dyn Write) -> io::Result<()> {
+        let entry = match self.entry {
+            Entry::Encode => 0,
+            Entry::Decode => 1,
+            Entry::Read => 2,
+            Entry::Word | Entry::Row => return Ok(()),
+        };
+        let refused = (1..=6).contains(&said.number());
+        assert!(!refused || said.output == self.output, "the second program refuses, and writes");
+        let output = if refused { &[] } else { &said.output[..] };
+        let numbers =
+            [entry, self.n, self.argument, self.input.len(), self.output.len(), output.len(), said.result as usize];
+        numbers.iter().try_for_each(|number| sink.write_all(&number.to_le_bytes()))?;
+        sink.write_all(&self.input)?;
+        sink.write_all(output)
     }
 
     /// Lends the proved engine an output with a margin on both sides.

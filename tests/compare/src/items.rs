@@ -3,7 +3,7 @@
 use crate::block::Block;
 use crate::case::{Case, Entry};
 use crate::promise::Promise;
-use shared::bits::{bit, bytes_for, flip, flip_at, square_bytes, SHORTEST};
+use shared::bits::{bit, bytes_for, clear_spare_bits, flip, on_spare_bits, square_bytes, SHORTEST};
 
 /// The codeword of 18 that is not zero.
 const TWELVE_ONES: [u8; 3] = [0xb7, 0xb1, 0xc0];
@@ -14,6 +14,7 @@ pub fn items(block: &mut Block) {
     }
     frames(block);
     data_bit(block);
+    ones(block);
     words(block);
     edges(block);
 }
@@ -28,22 +29,44 @@ fn packed(number: u64, passes: u64, flips: u64, rows: u64, columns: u64) -> u64 
     number | passes << 8 | flips << 16 | rows << 32 | columns << 48
 }
 
+/// Each at every allowance, with and without spare bits; and each spare bit alone.
 fn frames(block: &mut Block) {
-    let a = vec![0; 54];
-    let mut b = a.clone();
-    b[0] = 0xc0;
-    let mut c = a.clone();
-    c[..6].copy_from_slice(&[0xff, 0xff, 0xc0, 0xff, 0xff, 0xc0]);
-    let mut d = a.clone();
-    (0..9).for_each(|place| flip_at(18, &mut d, place / 3, place % 3));
-    let mut spare = a.clone();
-    flip(&mut spare[5..], 2);
-    decode(block, 2, a, 0, true);
-    decode(block, 2, b, packed(0, 1, 2, 0, 0), true);
-    decode(block, 2, c.clone(), packed(0, 2, 36, 0, 0), true);
-    decode(block, 1, c, packed(8, 1, 0, 2, 18), false);
-    decode(block, 2, d, packed(7, 2, 0, 3, 3), false);
-    decode(block, 2, spare, 0, true);
+    let item = |bytes: &[u8]| [bytes, &vec![0; 54 - bytes.len()]].concat();
+    let all = [&[][..], &[0xc0], &[0xff, 0xff, 0xc0, 0xff, 0xff, 0xc0], &[0xe0, 0, 0, 0xe0, 0, 0, 0xe0], &[0, 0, 0x40]];
+    for spare in [0, 0x3f] {
+        let [a, b, c, d, last] = all.map(item).map(|mut frame| {
+            on_spare_bits(18, &mut frame, |byte, mask| *byte |= mask & spare);
+            frame
+        });
+        for allowance in 1..=32 {
+            decode(block, allowance, a.clone(), 0, true);
+            decode(block, allowance, b.clone(), packed(0, 1, 2, 0, 0), true);
+            decode(block, allowance, last.clone(), packed(0, 1, 1, 0, 0), true);
+            let (third, fourth) = match allowance {
+                1 => (packed(8, 1, 0, 2, 18), packed(8, 1, 0, 3, 3)),
+                _ => (packed(0, 2, 36, 0, 0), packed(7, 2, 0, 3, 3)),
+            };
+            decode(block, allowance, c.clone(), third, allowance > 1);
+            decode(block, allowance, d.clone(), fourth, false);
+        }
+    }
+    for place in (0..18 * 24).filter(|place| place % 24 >= 18) {
+        let mut frame = vec![0; 54];
+        flip(&mut frame, place);
+        decode(block, 2, frame.clone(), 0, true);
+        let case = Case::new(&mut block.random, Entry::Read, 18, frame, 1);
+        block.check(case, Promise::Exactly(0, vec![0]), &[]);
+    }
+}
+
+/// A word of 256 ones is a codeword; of 255 and of 254 ones it has none within two.
+fn ones(block: &mut Block) {
+    for (n, result) in [(256, 0), (255, packed(7, 2, 0, 255, 255)), (254, packed(7, 2, 0, 254, 254))] {
+        let mut frame = vec![0xff; square_bytes(n)];
+        clear_spare_bits(n, &mut frame);
+        let case = Case::new(&mut block.random, Entry::Decode, n, frame.clone(), frame.len()).with(2);
+        block.check(case, Promise::Exactly(result, frame), &[]);
+    }
 }
 
 /// Row i of the frame of data bit 1 is the codeword where its bit i is one.

@@ -1,7 +1,7 @@
 //! All kinds of checks, how many cases each has for every n, and which answers it must meet.
 
 use crate::block::{Block, Kind};
-use crate::{data, frames, items, knots, refusals, words};
+use crate::{data, edges, frames, items, knots, refusals, words};
 use shared::bits::{LONGEST, SHORTEST};
 
 const LENGTHS: u64 = (LONGEST - SHORTEST + 1) as u64;
@@ -71,11 +71,18 @@ pub fn all() -> Vec<Kind> {
             least: 6 * 57,
             ..kind("frames, passes that undo one another", 6, "Spent", knots::knots)
         },
+        // At the edges.
+        whole("frames, every word bad", 7 * LENGTHS, "Stuck Spent", edges::all_words_bad),
+        whole("frames, two wrong bits in every row", 2 * LENGTHS, "RepairedInOne", edges::two_in_every_row),
+        Kind { lengths: 66..=256, ..whole("frames, 30 to 32 passes", 5 * 191, "RepairedLate Spent", edges::bands) },
+        whole("frames, just mended", 5 * LENGTHS, "RepairedInOne RepairedInTwo", edges::just_mended),
+        whole("reading frames with one wrong bit", 11 * LENGTHS, "Number6 Read", edges::unreadable),
+        Kind { lengths: 255..=256, ..whole("data with one spare bit set", 4000, "Number5", edges::each_spare_bit) },
         whole("refusals of words", 100 * LENGTHS, "Number1 Number2 Number3", refusals::word),
         whole("refusals of encode", 100 * LENGTHS, "Number1 Number2 Number3 Number5", refusals::encode),
         whole("refusals of read", 100 * LENGTHS, "Number1 Number2 Number3 Number6", refusals::read),
         whole("refusals of decode", 500 * LENGTHS, "Number1 Number2 Number3 Number4", refusals::decode),
         whole("refusals of row", 70 * LENGTHS, "Row NoRow", refusals::row),
-        Kind { lengths: 18..=18, ..whole("bench items of document 01", 23, "", items::items) },
+        Kind { lengths: 18..=18, ..whole("bench items of document 01", 560, "", items::items) },
     ]
 }

@@ -24,10 +24,10 @@ pub fn word(block: &mut Block) {
 /// Values of n that are out of range, some of which are in range if a part of their bits is lost.
 fn bad_lengths() -> Vec<usize> {
     let word = u32::MAX as usize;
-    let some = [0, 1, 2, 8, 16, 17, 257, 258, 274, 512, 1000, 65535, 65554, 65792];
+    let some = [0, 1, 2, 8, 16, 17, 257, 258, 274, 512, 1000, 65535, 65536, 65554, 65792];
     let half = usize::MAX / 2;
-    let large = [word, word.wrapping_add(1), word.wrapping_add(19), half, half + 19];
-    let largest = [usize::MAX - 17, usize::MAX - 7, usize::MAX];
+    let large = [word, word.wrapping_add(1), word.wrapping_add(19), word.wrapping_add(257), half, half + 1, half + 19];
+    let largest = [usize::MAX - 17, usize::MAX - 7, usize::MAX - 6, usize::MAX];
     let all = some.into_iter().chain(large).chain(largest);
     all.filter(|n| !(SHORTEST..=LONGEST).contains(n)).collect()
 }
@@ -68,7 +68,10 @@ fn refusals(block: &mut Block, entry: Entry) {
     let (input, output) = exact(entry, n);
     let next = exact(entry, if n < LONGEST { n + 1 } else { n - 1 });
     let allowances = match entry {
-        Entry::Decode => vec![2, 0, 33, 255, 256, 257, usize::MAX],
+        Entry::Decode => {
+            let large = [65537, (u32::MAX as usize).wrapping_add(2), usize::MAX / 2 + 1, usize::MAX];
+            [&[1, 2, 31, 32, 0, 33, 34, 255, 256, 257, 258, 288], &large[..]].concat()
+        }
         _ => vec![0],
     };
     for input in around(input, next.0) {
@@ -79,7 +82,9 @@ fn refusals(block: &mut Block, entry: Entry) {
         }
     }
     for bad in bad_lengths() {
-        for lengths in [(input, output), (input, 0), (0, output), (0, 0)] {
+        // Those of this n, none, and those that the bad n would ask for.
+        let own = if (18..300).contains(&bad) { exact(entry, bad) } else { (0, 0) };
+        for lengths in [(input, output), (input, 0), (0, output), own] {
             for &allowance in &allowances {
                 check(block, entry, bad, lengths, allowance);
             }

@@ -1,0 +1,191 @@
+/* Calls the functions of gazenohyri.h on the cases of standard input, which tests/compare writes with the answers that must
+ * come. Each is called on buffers that show a stray access: the input is read-only, and so is an output that must stay as it
+ * is. A read or write in front of or behind a buffer, or a write to the input, ends the program with a line that names the
+ * call, or fails a check. It is the guard pages that show what the archive's code does: it is not instrumented, so on the heap a
+ * sanitizer sees the callers' code alone. */
+#define _DEFAULT_SOURCE /* MAP_ANONYMOUS */
+#include "expect.h"
+#include "gazenohyri.h"
+
+#include <signal.h>
+#include <stdarg.h>
+#include <stdio.h>
+#include <stdlib.h>
+#include <string.h>
+#include <sys/mman.h>
+#include <unistd.h>
+
+enum { AROUND = 0x5C, BEFORE = 0xA5 }; /* what the pages hold beside a buffer, and what the output holds before a call */
+enum { SHOWN = 5 };                    /* failures of a group that are printed */
+enum { MOST = 1 << 14 };               /* bytes of any buffer here: twice the longest frame */
+
+typedef enum { ENDS_AT_GUARD_PAGE, BEGINS_AFTER_GUARD_PAGE, ON_THE_HEAP, PLACEMENTS } Placement;
+static const char *const places[] = {"ends at a guard page", "begins after a guard page",
+                                     "on the heap, NULL where it is empty"};
+
+/* As it is read. The length `after` is that of the output after the call, or 0 where that stays as it is. */
+enum { ENCODE, DECODE, READ, FUNCTIONS };
+static const char *const names[] = {"encode", "decode", "read"};
+typedef struct {
+    uint64_t function, n, allowance, input, output, after, result;
+} Case;
+
+typedef struct {
+    uint8_t *pages, *bytes;
+    size_t length;
+} Lent;
+
+static Lent input, output;
+static size_t pages_length;
+static uint8_t given[MOST], expected[MOST], *around;
+static unsigned long checks, failures, null_inputs[FUNCTIONS], null_outputs[FUNCTIONS];
+static unsigned passed, failed;
+static char group[256], call[256];
+
+void begin_group(const char *name)
+{
+    if (group[0] != '\0') {
+        bool good = failures == 0 && checks > 0;
+        good ? passed++ : failed++;
+        printf("%s: %s (%lu of %lu checks)\n", good ? "ok" : "FAILED", group, checks - failures, checks);
+        fflush(stdout);
+    }
+    snprintf(group, sizeof group, "%s", name);
+    checks = failures = 0;
+}
+
+void describe(const char *format, ...)
+{
+    va_list values;
+    va_start(values, format);
+    vsnprintf(call, sizeof call, format, values);
+    va_end(values);
+}
+
+void expect(bool holds, const char *expression)
+{
+    checks++;
+    if (!holds && ++failures <= SHOWN)
+        printf("FAILED: not so: %s, after %s\n", expression, call);
+}
+
+static void stop(const char *why)
+{
+    printf("FAILED: %s, in %s\n", why, call);
+    fflush(stdout);
+    _exit(1);
+}
+
+static void on_signal(int number)
+{
+    (void)number;
+    stop("a stray access");
+}
+
+static uint8_t *map_pages(void)
+{
+    size_t page = (size_t)sysconf(_SC_PAGESIZE);
+    pages_length = (MOST + page - 1) / page * page;
+    void *at = mmap(NULL, pages_length + 2 * page, PROT_READ | PROT_WRITE, MAP_PRIVATE | MAP_ANONYMOUS, -1, 0);
+    uint8_t *first = (uint8_t *)at + page;
+    if (at == MAP_FAILED || mprotect(at, page, PROT_NONE) || mprotect(first + pages_length, page, PROT_NONE))
+        stop("no guard pages");
+    memset(first, AROUND, pages_length);
+    return first;
+}
+
+static void lend(Lent *buffer, const uint8_t *bytes, size_t length, Placement placement, bool read_only)
+{
+    buffer->length = length;
+    if (placement == ON_THE_HEAP)
+        buffer->bytes = length > 0 ? (uint8_t *)malloc(length) : NULL;
+    else
+        buffer->bytes = buffer->pages + (placement == ENDS_AT_GUARD_PAGE ? pages_length - length : 0);
+    if (length > 0 && buffer->bytes == NULL)
+        stop("no memory");
+    if (length > 0)
+        memcpy(buffer->bytes, bytes, length);
+    if (placement != ON_THE_HEAP && read_only && mprotect(buffer->pages, pages_length, PROT_READ))
+        stop("pages can't be protected");
+}
+
+/* Its bytes must be these. */
+static void take_back(Lent *buffer, const uint8_t *bytes, Placement placement)
+{
+    EXPECT(buffer->length == 0 || memcmp(buffer->bytes, bytes, buffer->length) == 0);
+    if (placement == ON_THE_HEAP) {
+        free(buffer->bytes);
+        return;
+    }
+    if (mprotect(buffer->pages, pages_length, PROT_READ | PROT_WRITE))
+        stop("pages can't be protected");
+    if (buffer->length > 0)
+        memset(buffer->bytes, AROUND, buffer->length);
+    EXPECT(memcmp(buffer->pages, around, pages_length) == 0); /* nothing beside it was written */
+}
+
+static uint64_t answer_of(const Case *c)
+{
+    size_t n = (size_t)c->n, allowance = (size_t)c->allowance;
+    if (c->function == ENCODE)
+        return gazenohyri_encode(n, input.bytes, input.length, output.bytes, output.length);
+    if (c->function == READ)
+        return gazenohyri_read(n, input.bytes, input.length, output.bytes, output.length);
+    return gazenohyri_decode(n, allowance, input.bytes, input.length, output.bytes, output.length);
+}
+
+static void try_case(const Case *c, Placement placement)
+{
+    static uint8_t before[MOST];
+    memset(before, BEFORE, (size_t)c->output);
+    lend(&input, given, (size_t)c->input, placement, true);
+    lend(&output, before, (size_t)c->output, placement, c->after == 0);
+    null_inputs[c->function] += input.bytes == NULL;
+    null_outputs[c->function] += output.bytes == NULL;
+    describe("%s(n = %zu, allowance = %zu, lengths %zu and %zu), each buffer %s, for the result %#llx", names[c->function],
+             (size_t)c->n, (size_t)c->allowance, input.length, output.length, places[placement],
+             (unsigned long long)c->result);
+    uint64_t answer = answer_of(c);
+    EXPECT(answer == c->result);
+    take_back(&input, given, placement);
+    take_back(&output, c->after > 0 ? expected : before, placement);
+}
+
+static void get(void *bytes, uint64_t length)
+{
+    if (length > MOST || fread(bytes, 1, (size_t)length, stdin) != length)
+        stop("the cases can't be read");
+}
+
+int main(void)
+{
+    Case c;
+    input.pages = map_pages();
+    output.pages = map_pages();
+    around = map_pages();
+    signal(SIGSEGV, on_signal);
+    signal(SIGBUS, on_signal);
+    begin_group("the header's constants, sizes and fields");
+    header_values();
+    size_t got;
+    while ((got = fread(&c, 1, sizeof c, stdin)) == sizeof c) {
+        if (c.function == FUNCTIONS) { /* a new group, and the length of its name */
+            get(given, c.n);
+            given[c.n] = '\0';
+            begin_group((const char *)given);
+            continue;
+        }
+        get(given, c.input);
+        get(expected, c.after);
+        for (int placement = 0; placement < PLACEMENTS; placement++)
+            try_case(&c, (Placement)placement);
+    }
+    if (got != 0 || !feof(stdin))
+        stop("the cases can't be read");
+    begin_group("NULL with length 0: lent to each function, as input and as output");
+    for (int function = 0; function < FUNCTIONS; function++)
+        EXPECT(null_inputs[function] > 0 && null_outputs[function] > 0);
+    begin_group("");
+    printf("%u passed, %u failed\n", passed, failed);
+    return failed == 0 && passed > 0 ? 0 : 1;
+}
