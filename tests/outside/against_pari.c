@@ -1,8 +1,5 @@
-/* The library, and the numbers that document 01 prints, against the answers of pari.gp on standard input. */
-#include "pari.h"
-
-#include "code.h"
-#include "words.h"
+/* The library, and the numbers that the rules print, against the answers of pari.gp on standard input. */
+#include "outside.h"
 
 #include <stdio.h>
 #include <stdlib.h>
@@ -11,9 +8,9 @@
 enum { LINE = 1024, LISTED = 16 };
 
 static struct comparison kinds[] = {
-    {"document 01", "polynomial irreducible and of order 255 by PARI", 0, 0},
-    {"document 01", "powers of a against PARI", 0, 0},
-    {"document 01", "polynomials, minimal of a and of a^3 and g, against PARI", 0, 0},
+    {"the rules", "polynomial irreducible and of order 255 by PARI", 0, 0},
+    {"the rules", "powers of a against PARI", 0, 0},
+    {"the rules", "polynomials, minimal of a and of a^3 and g, against PARI", 0, 0},
     {"field", "powers of a against PARI", 0, 0},
     {"field", "logarithms against PARI", 0, 0},
     {"encoder", "lengths, checks of the last data bit against g by PARI", 0, 0},
@@ -21,7 +18,7 @@ static struct comparison kinds[] = {
 };
 enum { PRIMITIVE, LISTED_POWERS, POLYNOMIALS, POWERS, LOGARITHMS, LAST_BITS, PRODUCTS, KINDS };
 
-/* As document 01 prints them: powers, and the exponents of polynomials. */
+/* As the rules print them: powers, and the exponents of polynomials. */
 static const unsigned listed[LISTED] = {1, 2, 4, 8, 16, 32, 64, 128, 29, 58, 116, 232, 205, 135, 19, 38};
 static const unsigned of_a[] = {8, 4, 3, 2, 0}, of_a3[] = {8, 6, 5, 4, 2, 1, 0};
 static const unsigned of_g[] = {16, 14, 13, 11, 10, 9, 8, 6, 5, 1, 0};
@@ -35,10 +32,73 @@ static unsigned polynomial(const unsigned *exponents, size_t terms)
     return number;
 }
 
-void not_understood(const char *answer)
+/* Ends the program: an answer has not the form that pari.gp gives it. */
+static void not_understood(const char *answer)
 {
     printf("FAILED the answer of PARI is not understood: %s\n", answer);
     exit(1);
+}
+
+enum { LONGEST_FRAME = LONGEST * LONGEST_BYTES };
+
+/* g as PARI gives it, bit i for z^i: with data of a single one, at the end of a row, the word is z^16 and its checks are g
+   without its leading term. At every length. */
+static void compare_last_bits(struct comparison *kind, unsigned g)
+{
+    static uint8_t data[LONGEST_FRAME], frame[LONGEST_FRAME];
+    for (size_t n = SHORTEST; n <= LONGEST; n++) {
+        size_t k = n - BESIDE_DATA;
+        memset(data, 0, sizeof data);
+        flip(data, k - 1);
+        encode(n, data, frame);
+        unsigned ours = 1u << CHECKS | number_at(frame, k, CHECKS);
+        if (differs(kind, g == ours)) {
+            show_number("PARI", g);
+            show_word("ours", n, frame);
+        }
+    }
+}
+
+static void read_word(size_t n, const char *bits, uint8_t *word)
+{
+    if (n < SHORTEST || n > LONGEST || strlen(bits) != n || strspn(bits, "01") != n)
+        not_understood(bits);
+    memset(word, 0, LONGEST_BYTES);
+    for (size_t place = 0; place < n; place++)
+        if (bits[place] == '1')
+            flip(word, place);
+}
+
+/* Bit j of row i is bit i of `column` times bit j of `row`; as many rows as bits in a row. */
+static void multiply(size_t bits, const uint8_t *column, const uint8_t *row, uint8_t *rows)
+{
+    memset(rows, 0, bits * bytes_of(bits));
+    for (size_t i = 0; i < bits; i++)
+        for (size_t j = 0; j < bits; j++)
+            if (bit_at(column, i) == 1 && bit_at(row, j) == 1)
+                flip(rows + i * bytes_of(bits), j);
+}
+
+/* Two words of n bits that PARI made: the frame of the product of their data must be the product of the words. */
+static void compare_product(struct comparison *kind, size_t n, const char *column_bits, const char *row_bits)
+{
+    static uint8_t data[LONGEST_FRAME], frame[LONGEST_FRAME], expected[LONGEST_FRAME];
+    uint8_t column[LONGEST_BYTES], row[LONGEST_BYTES];
+    read_word(n, column_bits, column);
+    read_word(n, row_bits, row);
+    multiply(n - BESIDE_DATA, column, row, data);
+    multiply(n, column, row, expected);
+    encode(n, data, frame);
+    size_t bytes = bytes_of(n), i = 0;
+    while (i < n && memcmp(frame + i * bytes, expected + i * bytes, bytes) == 0)
+        i++;
+    if (differs(kind, i == n)) {
+        show_word("column", n, column);
+        show_word("row", n, row);
+        show_number("in row", i);
+        show_word("PARI", n, expected + i * bytes);
+        show_word("ours", n, frame + i * bytes);
+    }
 }
 
 static void compare_number(int kind, const char *line, unsigned pari, unsigned ours)

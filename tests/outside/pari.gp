@@ -1,4 +1,4 @@
-\\ The field and the code of document 01 by PARI/GP. Each line that is printed is one answer, for against_pari.c.
+\\ The field and the code of the rules by PARI/GP. Each line that is printed is one answer, for against_pari.c.
 
 default(recover, 0); \\ an error ends it
 p = Mod(1, 2) * (z^8 + z^4 + z^3 + z^2 + 1);

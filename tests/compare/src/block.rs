@@ -26,7 +26,7 @@ pub struct Kind {
     pub lengths: RangeInclusive<usize>,
     /// Each answer of these must be met.
     pub answers: &'static str,
-    pub make: fn(&mut Block),
+    pub make: Box<dyn Fn(&mut Block) + Sync>,
 }
 
 impl Kind {

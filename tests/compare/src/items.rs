@@ -1,4 +1,4 @@
-//! The bench items of document 01, with the answers it gives.
+//! The bench items of the rules, with the answers that they give.
 
 use crate::block::Block;
 use crate::case::{Case, Entry};

@@ -7,7 +7,13 @@ use shared::bits::{LONGEST, SHORTEST};
 const LENGTHS: u64 = (LONGEST - SHORTEST + 1) as u64;
 
 /// A kind that has `count` cases for every n.
-fn kind(name: &'static str, count: usize, answers: &'static str, make: fn(&mut Block)) -> Kind {
+pub fn kind(
+    name: &'static str,
+    count: usize,
+    answers: &'static str,
+    make: impl Fn(&mut Block) + Sync + 'static,
+) -> Kind {
+    let make = Box::new(make);
     Kind { name, count, least: count as u64 * LENGTHS, lengths: SHORTEST..=LONGEST, answers, make }
 }
 
@@ -21,13 +27,14 @@ fn sum_over_lengths(cases: fn(usize) -> usize) -> u64 {
 }
 
 const FOUR: &str = "Codeword OnePlace TwoPlaces NoCodeword";
-const THREE: &str = "Repaired Stuck Spent";
 
 pub fn all() -> Vec<Kind> {
     let pairs = sum_over_lengths(|n| n + n * (n - 1) / 2);
     let rows = sum_over_lengths(|n| n);
-    vec![
-        // Words whose answer document 01 settles.
+    let mut kinds = frames::usual();
+    kinds.extend(frames::made());
+    kinds.extend([
+        // Words whose answer the rules settle.
         Kind { lengths: 18..=18, ..whole("words, all 2^18 words at n = 18", 1 << 18, FOUR, words::all_at_18) },
         whole("words, every one and two wrong places", pairs, "OnePlace TwoPlaces", words::every_place),
         Kind {
@@ -43,29 +50,6 @@ pub fn all() -> Vec<Kind> {
         kind("reading frames with spare bits set", 20, "Read", data::read_spare_bits),
         kind("reading damaged frames", 60, "Number6", data::read_damaged),
         whole("rows, every row of a frame", rows, "Row", refusals::every_row),
-        // Damage as flash and cable do it.
-        kind("frames, clean", 16, "Clean", frames::clean),
-        kind("frames, one wrong bit", 24, "RepairedInOne", frames::one_bit),
-        kind("frames, a few wrong bits", 48, THREE, frames::few_bits),
-        kind("frames, whole rows", 40, THREE, frames::whole_rows),
-        kind("frames, whole columns", 40, THREE, frames::whole_columns),
-        kind("frames, crossings of rows and columns", 48, THREE, frames::crossings),
-        kind("frames, torn", 40, THREE, frames::torn),
-        kind("frames, bursts", 32, THREE, frames::bursts),
-        kind("frames, noise", 24, THREE, frames::noise),
-        kind("frames, random bytes", 16, "Stuck Spent", frames::random_bytes),
-        kind("frames, spare bits set", 24, "Clean Repaired", frames::spare_bits),
-        // Damage made to lead the decoder somewhere.
-        kind("frames, within the class", 48, "Clean RepairedInOne RepairedInTwo", frames::within_class),
-        kind("frames, rows that are other codewords", 40, "RepairedInTwo Stuck Spent", frames::other_codewords),
-        kind("frames, rows of another frame", 32, "Clean Repaired Stuck Spent", frames::rows_of_another),
-        kind("frames, chains that take many passes", 32, "RepairedLate StuckLate Spent", frames::chains),
-        // Damage made of codewords with just six ones.
-        Kind {
-            lengths: 31..=256,
-            least: 8 * 226,
-            ..kind("frames, sixteen bits of another frame", 8, "WronglyRepaired Spent", frames::sixteen_bits)
-        },
         Kind {
             lengths: knots::LENGTHS,
             least: 6 * 57,
@@ -77,12 +61,13 @@ pub fn all() -> Vec<Kind> {
         Kind { lengths: 66..=256, ..whole("frames, 30 to 32 passes", 5 * 191, "RepairedLate Spent", edges::bands) },
         whole("frames, just mended", 5 * LENGTHS, "RepairedInOne RepairedInTwo", edges::just_mended),
         whole("reading frames with one wrong bit", 11 * LENGTHS, "Number6 Read", edges::unreadable),
-        Kind { lengths: 255..=256, ..whole("data with one spare bit set", 4000, "Number5", edges::each_spare_bit) },
+        Kind { lengths: 255..=256, ..whole("data with one spare bit set", 1915, "Number5", edges::each_spare_bit) },
         whole("refusals of words", 100 * LENGTHS, "Number1 Number2 Number3", refusals::word),
         whole("refusals of encode", 100 * LENGTHS, "Number1 Number2 Number3 Number5", refusals::encode),
         whole("refusals of read", 100 * LENGTHS, "Number1 Number2 Number3 Number6", refusals::read),
         whole("refusals of decode", 500 * LENGTHS, "Number1 Number2 Number3 Number4", refusals::decode),
         whole("refusals of row", 70 * LENGTHS, "Row NoRow", refusals::row),
-        Kind { lengths: 18..=18, ..whole("bench items of document 01", 560, "", items::items) },
-    ]
+        Kind { lengths: 18..=18, ..whole("bench items of the rules", 556, "", items::items) },
+    ]);
+    kinds
 }

@@ -2,7 +2,7 @@
 //!
 //! A *case* is one call of an entry point. Both sides get the same arguments and the same bytes in the output beforehand, and
 //! must give the same number, the same counts and the same bytes. Where the way a case was made settles its answer by
-//! document 01, both are also held to that: a *promise*.
+//! the rules, both are also held to that: a *promise*.
 
 pub mod block;
 pub mod case;

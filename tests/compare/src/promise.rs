@@ -1,4 +1,4 @@
-//! What document 01 promises of a case by the way it was made, whatever the second program says.
+//! What the rules promise of a case by the way it was made, whatever the second program says.
 
 use crate::case::{Case, Said};
 use shared::bits::{follows, Follows};

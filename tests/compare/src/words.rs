@@ -30,7 +30,7 @@ fn some_codeword(block: &mut Block) -> Vec<u8> {
     block.write_word(block.n, data)
 }
 
-/// This block's share of all words of 18. There are two codewords, both known from document 01.
+/// This block's share of all words of 18. There are two codewords, both known from the rules.
 pub fn all_at_18(block: &mut Block) {
     let lengths = LONGEST - SHORTEST + 1;
     for number in (block.n - SHORTEST..1 << 18).step_by(lengths) {

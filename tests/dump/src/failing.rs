@@ -22,11 +22,12 @@ fn run(mut command: Command, input: impl Into<Stdio>, output: impl Into<Stdio>) 
 /// What is wrong, where this is the report and one line that has `says` in it, or none, is on standard error.
 fn fault(ran: &Output, expected: &[u8], says: &str) -> &'static str {
     let said = String::from_utf8_lossy(&ran.stderr);
+    let told = said.contains(says) && said.find('\n').map_or(false, |end| end + 1 == said.len());
     if ran.stdout != expected {
         "the report is another"
     } else if says.is_empty() && !said.is_empty() {
         "something was said on standard error"
-    } else if !says.is_empty() && !(said.contains(says) && said.find('\n') == Some(said.len() - 1)) {
+    } else if !says.is_empty() && !told {
         "standard error has not just a line that says it"
     } else {
         ""

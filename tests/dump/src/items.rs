@@ -1,4 +1,4 @@
-//! Records whose report document 01 writes down, or that follows at once from its bench items.
+//! Records whose report the rules write down, or that follows at once from their bench items.
 
 use crate::records;
 use crate::text::{Dump, Line};

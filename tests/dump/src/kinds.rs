@@ -42,7 +42,7 @@ pub fn all() -> Vec<Kind> {
         kind("mixed lines, some bytes damaged", 1, damaged, &drawn(300)),
         kind("refused records", 1, Drawn(|maker, _, _| mixed::refused(maker)), &drawn(50)),
         kind("records of every n", 0, lengths, &each),
-        kind("bench items of document 01", 1, Listed(|_| items::all()), &EVERY),
+        kind("bench items of the rules", 1, Listed(|_| items::all()), &EVERY),
         kind("lines bad in every way", 2, Listed(mixed::bad_in_every_way), &EVERY),
         kind("ends of the dump", 2, Listed(ends::all), &EVERY),
         kind("lines with every byte at each place", 0, Listed(mixed::every_byte), &bytes),

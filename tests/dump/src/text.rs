@@ -1,4 +1,4 @@
-//! A dump as lines, each with what document 01 says of its line of the report by the way it was
+//! A dump as lines, each with what the rules say of its line of the report by the way it was
 //! made, whatever the second program says.
 
 use crate::said::{self, Said};
@@ -108,7 +108,7 @@ impl Dump {
         first.map_or(false, |line| matches!(line.expect, Expect::Header))
     }
 
-    /// What in `report` is not as document 01 says, or nothing.
+    /// What in `report` is not as the rules say, or nothing.
     pub fn broken(&self, report: &[u8]) -> Option<String> {
         if !self.good_header() {
             let kept = report == b"bad header\n";

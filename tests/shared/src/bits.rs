@@ -1,4 +1,4 @@
-//! How document 01 lays bits into bytes.
+//! How the rules lay bits into bytes.
 
 pub const SHORTEST: usize = 18;
 pub const LONGEST: usize = 256;

@@ -1,4 +1,4 @@
-//! Codewords and frames of document 01 by long division, apart from both sides.
+//! Codewords and frames of the rules by long division, apart from both sides.
 
 use crate::bits::{bit, bytes_for, clear_spare_bits, has_spare_bits, row, square_bytes, CHECK_BITS};
 
