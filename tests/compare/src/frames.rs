@@ -58,19 +58,11 @@ fn perhaps(random: &mut Random, n: usize, frame: &mut [u8], wrong: usize) {
     }
 }
 
-/// Damage as flash and cable do it.
-pub fn usual() -> Vec<Kind> {
-    const THREE: &str = "Repaired Stuck Spent";
-    const PER_MILLE: [usize; 12] = [1, 4, 8, 12, 16, 20, 25, 30, 40, 60, 150, 500];
+const THREE: &str = "Repaired Stuck Spent";
+
+/// Damage as flash and cable do it: rows, columns, and what comes after a torn write.
+pub fn whole_lines() -> Vec<Kind> {
     vec![
-        spoiled("frames, clean", 16, "Clean", |_, _, _, _| {}),
-        spoiled("frames, one wrong bit", 24, "RepairedInOne", |_, random, n, frame| {
-            damage::wrong_bits(random, n, frame, 1);
-        }),
-        spoiled("frames, a few wrong bits", 48, THREE, |_, random, n, frame| {
-            let count = random.within(2, 60);
-            damage::wrong_bits(random, n, frame, count);
-        }),
         spoiled("frames, whole rows", 40, THREE, |_, random, n, frame| {
             let (count, loss) = (random.within(1, 4), damage::loss(random));
             random.distinct(count, n).into_iter().for_each(|i| damage::lose_row(random, n, frame, i, loss));
@@ -87,6 +79,21 @@ pub fn usual() -> Vec<Kind> {
             perhaps(random, n, frame, 3);
         }),
         spoiled("frames, torn", 40, THREE, |_, random, n, frame| damage::tear(random, n, frame)),
+    ]
+}
+
+/// Damage likewise: bits here and there.
+pub fn scattered() -> Vec<Kind> {
+    const PER_MILLE: [usize; 12] = [1, 4, 8, 12, 16, 20, 25, 30, 40, 60, 150, 500];
+    vec![
+        spoiled("frames, clean", 16, "Clean", |_, _, _, _| {}),
+        spoiled("frames, one wrong bit", 24, "RepairedInOne", |_, random, n, frame| {
+            damage::wrong_bits(random, n, frame, 1);
+        }),
+        spoiled("frames, a few wrong bits", 48, THREE, |_, random, n, frame| {
+            let count = random.within(2, 60);
+            damage::wrong_bits(random, n, frame, count);
+        }),
         spoiled("frames, bursts", 32, THREE, |_, random, n, frame| {
             for _ in 0..random.within(1, 4) {
                 let length = random.within(1, 2 * n);
@@ -109,7 +116,6 @@ pub fn usual() -> Vec<Kind> {
 /// Damage made to lead the decoder somewhere.
 pub fn made() -> Vec<Kind> {
     let two_or_more: Allowance = |random| random.within(2, 32);
-    let mostly_all: Allowance = |random| if random.below(2) == 0 { 32 } else { random.within(1, 32) };
     vec![
         // Up to two rows of anything, up to two wrong bits in each other row.
         allowed(
@@ -138,7 +144,13 @@ pub fn made() -> Vec<Kind> {
             let other = written::frame(code, random, n).frame;
             damage::mix_rows(random, n, frame, &other);
         }),
-        // Sometimes beside three rows and columns that nothing mends.
+    ]
+}
+
+/// Damage made of codewords with just six ones, and chains, sometimes beside three rows and columns that nothing mends.
+pub fn tied() -> Vec<Kind> {
+    let mostly_all: Allowance = |random| if random.below(2) == 0 { 32 } else { random.within(1, 32) };
+    vec![
         allowed(
             "frames, chains that take many passes",
             32,
@@ -152,7 +164,6 @@ pub fn made() -> Vec<Kind> {
                 }
             },
         ),
-        // Made of codewords with just six ones.
         Kind {
             lengths: 31..=256,
             least: 8 * 226,

@@ -29,11 +29,15 @@ fn sum_over_lengths(cases: fn(usize) -> usize) -> u64 {
 const FOUR: &str = "Codeword OnePlace TwoPlaces NoCodeword";
 
 pub fn all() -> Vec<Kind> {
+    let parts =
+        [words_and_data, frames::whole_lines, frames::scattered, frames::made, frames::tied, edges_and_refusals];
+    parts.iter().flat_map(|part| part()).collect()
+}
+
+fn words_and_data() -> Vec<Kind> {
     let pairs = sum_over_lengths(|n| n + n * (n - 1) / 2);
     let rows = sum_over_lengths(|n| n);
-    let mut kinds = frames::usual();
-    kinds.extend(frames::made());
-    kinds.extend([
+    vec![
         // Words whose answer the rules settle.
         Kind { lengths: 18..=18, ..whole("words, all 2^18 words at n = 18", 1 << 18, FOUR, words::all_at_18) },
         whole("words, every one and two wrong places", pairs, "OnePlace TwoPlaces", words::every_place),
@@ -50,6 +54,11 @@ pub fn all() -> Vec<Kind> {
         kind("reading frames with spare bits set", 20, "Read", data::read_spare_bits),
         kind("reading damaged frames", 60, "Number6", data::read_damaged),
         whole("rows, every row of a frame", rows, "Row", refusals::every_row),
+    ]
+}
+
+fn edges_and_refusals() -> Vec<Kind> {
+    vec![
         Kind {
             lengths: knots::LENGTHS,
             least: 6 * 57,
@@ -68,6 +77,5 @@ pub fn all() -> Vec<Kind> {
         whole("refusals of decode", 500 * LENGTHS, "Number1 Number2 Number3 Number4", refusals::decode),
         whole("refusals of row", 70 * LENGTHS, "Row NoRow", refusals::row),
         Kind { lengths: 18..=18, ..whole("bench items of the rules", 556, "", items::items) },
-    ]);
-    kinds
+    ]
 }

@@ -55,6 +55,28 @@ impl Sides<'_> {
         (why.map(found), second)
     }
 
+    /// Judges so many dumps in one style. Each has its own seed, so that they are the same on any number of processors.
+    fn judge_all(
+        &self,
+        count: usize,
+        style: Style,
+        seed: u64,
+        make: impl Fn(&mut Maker, usize) -> Dump + Sync,
+    ) -> Tally {
+        let faults = AtomicUsize::new(0);
+        on_all(count, |index, tally: &mut Tally| {
+            let mut maker = Maker { code: self.code, random: Random::new(&[seed, index as u64]) };
+            let dump = make(&mut maker, index);
+            let (found, second) = self.judge(&dump, style.seeded(maker.random.number()));
+            note(tally, &dump, &second);
+            if let Some(found) = found {
+                faults.fetch_add(1, Ordering::Relaxed);
+                tally.keep("faults", found);
+            }
+            faults.load(Ordering::Relaxed) < MOST_FAULTS && !self.program.watch.gave_up()
+        })
+    }
+
     /// Drops runs of lines as long as something stays wrong. A first line that is good stays, since without it no other line
     /// would be read.
     pub fn shrink(&self, found: Found) -> Found {
@@ -96,8 +118,7 @@ pub struct Kind {
 const MOST_FAULTS: usize = 5;
 
 impl Kind {
-    /// Judges the dumps in each style, and counts each style as a check. Each dump has its own seed, so that they are the same
-    /// on any number of processors.
+    /// Judges the dumps in each style, and counts each style as a check.
     pub fn run(&self, sides: &Sides, scale: Scale, score: &mut Score, all: &mut Vec<(String, Found)>) -> Tally {
         let styles = if scale.quick { &self.styles[..self.quick] } else { &self.styles[..] };
         let mut total = Tally::default();
@@ -116,20 +137,10 @@ impl Kind {
                 Source::Listed(_) => (dumps.len() + number - 1) / number,
             };
             let name = format!("{}, {}", self.name, style.name());
-            let (seed, faults) = (scale.random(&name, &[]).number(), AtomicUsize::new(0));
-            let mut tally = on_all(count, |index, tally: &mut Tally| {
-                let mut maker = Maker { code: sides.code, random: Random::new(&[seed, index as u64]) };
-                let dump = match self.source {
-                    Source::Drawn(draw) => draw(&mut maker, &bad, index),
-                    Source::Listed(_) => dumps[index * number].clone(),
-                };
-                let (found, second) = sides.judge(&dump, style.seeded(maker.random.number()));
-                note(tally, &dump, &second);
-                if let Some(found) = found {
-                    faults.fetch_add(1, Ordering::Relaxed);
-                    tally.keep("faults", found);
-                }
-                faults.load(Ordering::Relaxed) < MOST_FAULTS && !sides.program.watch.gave_up()
+            let seed = scale.random(&name, &[]).number();
+            let mut tally = sides.judge_all(count, style, seed, |maker, index| match self.source {
+                Source::Drawn(draw) => draw(maker, &bad, index),
+                Source::Listed(_) => dumps[index * number].clone(),
             });
             if let Source::Drawn(_) = self.source {
                 tally.count_many("drawn", tally.of("dumps"));
