@@ -1,6 +1,6 @@
 //! The dump and its report, each rule at its edges.
 
-use second::dump::{report, report_with};
+use second::dump::{report, report_of_part, report_with};
 use second::Code;
 
 const LONGEST_LINE: usize = 16_414;
@@ -116,6 +116,24 @@ fn the_last_line_may_lack_its_lf() {
     assert_eq!(answers("7\t17\t2\t\n7\n"), format!("{}?\t3\n", refused));
     assert_eq!(answers("7"), "?\t2\n");
     assert_eq!(answers("\n7"), "?\t2\n?\t3\n");
+}
+
+/// Cut after any byte: the lines before the cut that have their LF, each as in
+/// the whole report, and of the first line nothing before its LF.
+#[test]
+fn of_a_part_the_lines_with_their_lf_are_reported() {
+    let code = Code::new();
+    for dump in [example(), example().replacen('1', "2", 1)] {
+        let whole = String::from_utf8(report_with(&code, dump.as_bytes())).unwrap();
+        for cut in 0..=dump.len() {
+            let ended = dump[..cut].matches('\n').count();
+            let expected: String = whole.split_inclusive('\n').take(ended).collect();
+            assert_eq!(
+                report_of_part(&code, dump[..cut].as_bytes()),
+                expected.into_bytes()
+            );
+        }
+    }
 }
 
 #[test]

@@ -27,13 +27,10 @@ fn main() {
         numbers.iter().for_each(|number| sink.write_all(&number.to_le_bytes()).expect("a group can be written"));
         sink.write_all(kind.name.as_bytes()).expect("a group can be written");
         for n in 18..=256 {
-            let chosen = if refusal {
-                [18, 19, 24, 25, 31, 32, 33, 64, 127, 195, 249, 255, 256].contains(&n)
-            } else {
-                is_boundary(n)
-            };
+            let chosen =
+                if refusal { [18, 19, 24, 25, 32, 33, 64, 195, 255, 256].contains(&n) } else { is_boundary(n) };
             if chosen || everywhere.contains(&kind.name) {
-                kind.write(&code, n, if chosen { 4 } else { 2 }, &mut sink);
+                kind.write(&code, n, if chosen { 2 } else { 1 }, &mut sink);
             }
         }
     }
