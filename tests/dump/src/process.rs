@@ -147,7 +147,7 @@ fn time_for(size: usize) -> Duration {
     Duration::from_secs(20 + size as u64 / 1_000_000)
 }
 
-/// Document 01 knows no failure of the program: a bad dump has its report too.
+/// A bad dump is no failure of the program: it has its report too.
 fn wrong_end(status: ExitStatus) -> Option<String> {
     match (status.code(), status.signal()) {
         (Some(0), _) => None,
