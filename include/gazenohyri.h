@@ -1,14 +1,14 @@
 /* Gazenohyri: encodes, repairs and reads square code frames.
  *
- * A frame has n rows of n bits, 18 <= n <= 256; every row and every column is a word of an extended BCH code that mends two
- * wrong bits. Its data, k = n - 17 rows of k bits, stand in its upper left corner. A row takes the fewest whole bytes, bit 0
- * is the top bit of the first byte, and the bits past a row's end are spare. docs/RULES.md has the exact rules.
+ * A frame is a square of n by n bits, 18 <= n <= 256. Its rows and its columns are words of an extended BCH code that mends two
+ * wrong bits. Its data, k by k bits with k = n - 17, stand in the upper left corner. A row takes as few whole bytes as it can,
+ * its first bit on top of the first byte; what is left over behind its last bit is spare. docs/RULES.md has the exact rules.
  *
  * What is promised, for every n:
  *  - Each function answers any bytes, lengths, n and allowance. What it can't take it refuses by number, and then no byte of
  *    the output changes.
  *  - A written frame, spoiled so that at most two of its rows have three or more wrong bits, comes back exactly, in at most two
- *    passes, at any allowance from 2 to 32. So do any eight wrong bits, and any two rows lost whole.
+ *    passes, at any allowance from 2 to 32. So do any eight wrong bits, any two rows lost whole, and any two columns.
  *
  * Where the promise ends: past that class a repair can be WRONG. Sixteen wrong bits, in four rows and four columns of a frame
  * of 31, are 'repaired' in two passes to a frame that was never written, with number 0. Nothing in the answer tells such a

@@ -8,7 +8,7 @@ use calls::read_call;
 use calls::row_call;
 use calls::word_call;
 
-const HUGE: usize = 18446744073709551615;
+const HUGE: usize = usize::MAX;
 
 fn encode_calls() {
     encode_call(17, 0, 51);

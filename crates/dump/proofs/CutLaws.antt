@@ -2,7 +2,7 @@
 -- Assumes nothing.
 use mathlib.Core.Path.{_≡_, refl, sym, ap, ap₂, _∙_}
 use mathlib.Core.Logic.{_≢_, _⊎_, inl, inr}
-use mathlib.Core.Bool.{Bool, true, false, not, _&&_}
+use mathlib.Core.Bool.{Bool, true, false, not}
 use mathlib.Core.List.{List, [], _∷_, _++_, append-assoc, append-nil}
 use Prim.Native.Nat.{ℕ, suc, _^_, _≤_, _<_}
 use native.Mathlib.Omega.{arith}
@@ -13,11 +13,11 @@ use Rattle.algebra.specs.Sums.{All}
 use Rattle.rules.specs.Numbers.{pick}
 use Rattle.rules.specs.Text.{Text, lf}
 use Rattle.rules.specs.Dump.{longestLine, report, reportCut}
-use Rattle.rules.proofs.Promises.Lines.{NoLF, joinedLines, Lines, lines-promise}
-use Rattle.rules.proofs.Promises.Reports.{Reports, reports}
+use Rattle.rules.proofs.Promises.Lines.{NoLF, joinedLines, lines-promise}
+use Rattle.rules.proofs.Promises.Reports.{reports}
 use Rattle.dump.specs.declared.state.State.{State}
-use Rattle.dump.specs.Stream.{atStart, mostLines, lineSays, held, following, isBadHeader, nextLine, longer, isBetween, stateAfter, textAfter, textAtEnd, Kept, keeping, keptAfter, afterAll}
-use Rattle.dump.proofs.StateLaws.{after-ended, after-lf, end-ended, end-none}
+use Rattle.dump.specs.Stream.{atStart, mostLines, lineSays, held, following, isBadHeader, nextLine, longer, stateAfter, textAfter, textAtEnd, Kept, keeping, keptAfter, afterAll}
+use Rattle.dump.proofs.StateLaws.{after-rejected, after-lf, end-rejected, end-none}
 use Rattle.dump.proofs.HandedLaws.{handed, after-append, handed-append}
 use Rattle.dump.proofs.RunLaws.{run, run-report}
 
@@ -39,7 +39,7 @@ run-handed (x ∷ m) k =
 text-none : (s : State) (line : List ℕ) (x : ℕ) → x ≢ lf → textAfter s line x ≡ []
 unfolding textAfter
 text-none s line x d =
-    ap (λ (b : Bool). pick (s .ended) [] (pick b (lineSays (s .number) (held (s .length) line)) [])) (ne-eqb x lf d) ∙ go (s .ended)
+    ap (λ (b : Bool). pick (s .rejected) [] (pick b (lineSays (s .number) (held (s .length) line)) [])) (ne-eqb x lf d) ∙ go (s .rejected)
   where
     go : (b : Bool) → pick {A = Text} b [] [] ≡ []
     go true = refl
@@ -59,11 +59,11 @@ Counted k = 1 ≤ k .state .number
 
 counted-next : (k : Kept) (x : ℕ) → Counted k → Counted (keptAfter k x)
 unfolding stateAfter
-counted-next k x h = go (k .state .ended) (eqb x lf) (ltb (k .state .number) mostLines)
+counted-next k x h = go (k .state .rejected) (eqb x lf) (ltb (k .state .number) mostLines)
   where
     go :
         (a b c : Bool)
-        → 1 ≤ pick a (k .state) (pick b (record { number = pick c (suc (k .state .number)) (k .state .number); length = 0; ended = isBadHeader (k .state) (k .line) }) (longer (k .state))) .number
+        → 1 ≤ pick a (k .state) (pick b (record { number = pick c (suc (k .state .number)) (k .state .number); length = 0; rejected = isBadHeader (k .state) (k .line) }) (longer (k .state))) .number
     go true b c = h
     go false true true = omega arith
     go false true false = h
@@ -88,12 +88,12 @@ next-line-end : (s : State) (line l : List ℕ) → 1 ≤ s .number → textAtEn
 next-line-end s line l h = go (isBadHeader s line) refl
   where
     go : (b : Bool) → isBadHeader s line ≡ b → textAtEnd (nextLine s line) l ≡ []
-    go true e = sym (end-ended (nextLine s line) l e)
+    go true e = sym (end-rejected (nextLine s line) l e)
     go false e =
         sym (end-none (nextLine s line) l e (ap not (ne-eqb (following (s .number)) 1 (following-more-than-one (s .number) h))))
 
 lf-end : (k : Kept) → Counted k → atEnd (keptAfter k lf) ≡ []
-lf-end k h = go (k .state .ended) refl
+lf-end k h = go (k .state .rejected) refl
   where
     s : State
     s = k .state
@@ -101,8 +101,8 @@ lf-end k h = go (k .state .ended) refl
     l : List ℕ
     l = keptAfter k lf .line
 
-    go : (b : Bool) → s .ended ≡ b → textAtEnd (stateAfter s (k .line) lf) l ≡ []
-    go true e = ap (λ (q : State). textAtEnd q l) (sym (after-ended s (k .line) lf e .0)) ∙ sym (end-ended s l e)
+    go : (b : Bool) → s .rejected ≡ b → textAtEnd (stateAfter s (k .line) lf) l ≡ []
+    go true e = ap (λ (q : State). textAtEnd q l) (sym (after-rejected s (k .line) lf e .0)) ∙ sym (end-rejected s l e)
     go false e =
         ap (λ (q : State). textAtEnd q l) (sym (after-lf s (k .line) lf e refl .0)) ∙ next-line-end s (k .line) l h
 

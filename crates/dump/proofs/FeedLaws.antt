@@ -16,7 +16,7 @@ use Rattle.dump.specs.declared.state.State.{State}
 use Rattle.dump.specs.declared.state.Step.{Step}
 use Rattle.dump.specs.declared.state.Taken.{Taken}
 use Rattle.text.specs.Laid.{laid, Lays}
-use Rattle.dump.specs.Told.{lineRoom}
+use Rattle.dump.specs.ReportText.{lineRoom}
 use Rattle.dump.specs.Stream.{stateAfter, lineAfter, textAfter, Run, begun, stepped, fed}
 use Rattle.dump.specs.Calls.{TakesByte, TakesPiece}
 use Rattle.text.proofs.LaidLaws.{laid-none, laid-length, lays-then}
@@ -66,7 +66,7 @@ fed-next room r piece taken h l =
 
 pub line-after-length : (s : State) (line : List ℕ) (x : ℕ) → length (lineAfter s line x) ≡ length line
 unfolding lineAfter
-line-after-length s line x = go (s .ended) (isLf x)
+line-after-length s line x = go (s .rejected) (isLf x)
   where
     isLf : ℕ → Bool
     isLf x = eqb x lf

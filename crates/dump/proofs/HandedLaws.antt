@@ -3,7 +3,7 @@
 use mathlib.Core.Path.{_≡_, refl, sym, ap, ap₂, _∙_}
 use mathlib.Core.Bool.{Bool, true, false}
 use mathlib.Core.List.{List, [], _∷_, _++_, append-assoc, append-nil}
-use Prim.Native.Nat.{ℕ, suc, _+_, _-_, _≤_}
+use Prim.Native.Nat.{ℕ, suc, _+_, _-_}
 use native.Mathlib.Omega.{arith}
 use lib.Dec.{leb}
 use lib.ListN.{length, take, drop, length-drop}
@@ -12,9 +12,9 @@ use Rattle.rules.specs.Numbers.{pick}
 use Rattle.rules.specs.Text.{Text}
 use Rattle.dump.specs.declared.state.State.{State}
 use Rattle.dump.specs.declared.state.Taken.{Taken}
-use Rattle.dump.specs.Told.{lineRoom}
+use Rattle.dump.specs.ReportText.{lineRoom}
 use Rattle.dump.specs.Stream.{textAfter, Kept, keeping, keptAfter, afterAll, Run, begun, stepped, fed}
-use Rattle.dump.specs.Calls.{TakesPiece, Leaves, LeavesPart, LeavesSome}
+use Rattle.dump.specs.Calls.{TakesPiece, Leaves, LeavesSome}
 
 -- the text that is handed out byte by byte
 unfoldable pub handed : Kept → Text → Text

@@ -1,5 +1,5 @@
 -- The report's lines
-pub mod ToldLaws
+pub mod ReportTextLaws
 pub mod LineLaws
 -- The state
 pub mod StateLaws

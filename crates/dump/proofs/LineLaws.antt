@@ -16,9 +16,9 @@ use Rattle.frame.specs.Said.{decodedOf}
 use Rattle.text.specs.declared.record.Head.{Head}
 use Rattle.text.specs.Laid.{Lays}
 use Rattle.text.specs.Read.{headOf}
-use Rattle.dump.specs.Told.{decodedText}
+use Rattle.dump.specs.ReportText.{decodedText}
 use Rattle.text.proofs.RecordLaws.{line-bad-head, line-bad-frame, line-record}
-use Rattle.dump.proofs.ToldLaws.{decoded-said}
+use Rattle.dump.proofs.ReportTextLaws.{decoded-said}
 
 -- the fourth field, as the code has it
 abbrev pub digitsAt : Text → ℕ → Text

@@ -15,11 +15,11 @@ use Rattle.dump.specs.declared.state.State.{State}
 use Rattle.dump.specs.declared.state.Step.{Step}
 use Rattle.dump.specs.declared.state.Taken.{Taken}
 use Rattle.text.specs.Laid.{laid, Lays}
-use Rattle.dump.specs.Told.{lineRoom}
+use Rattle.dump.specs.ReportText.{lineRoom}
 use Rattle.dump.specs.Stream.{atStart, textAfter, textAtEnd, Kept, keeping, keptAfter, afterAll, begun, fed}
 use Rattle.dump.specs.Calls.{TakesByte, TakesPiece, Finishes}
 use Rattle.dump.proofs.FeedLaws.{piece-within, piece-some}
-use Rattle.dump.proofs.RunLaws.{run, run-report}
+use Rattle.dump.proofs.RunLaws.{run-report}
 use Rattle.dump.proofs.HandedLaws.{handed, after-append, handed-append, piece-left, piece-text}
 use Rattle.dump.proofs.CutLaws.{run-handed, handed-cut}
 

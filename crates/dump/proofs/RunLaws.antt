@@ -18,7 +18,7 @@ use Rattle.rules.proofs.Laws.TextLaws.{all-append}
 use Rattle.rules.proofs.Promises.Lines.{NoLF, lines-cut, lines-open}
 use Rattle.dump.specs.declared.state.State.{State}
 use Rattle.dump.specs.Stream.{atStart, held, lineSays, mostLines, nextLine, longer, stateAfter, lineAfter, textAfter, textAtEnd}
-use Rattle.dump.proofs.StateLaws.{held-kept, held-over, too-long-bad, too-long-header, after-ended, after-lf, after-other, end-ended, end-none, end-line, between-not}
+use Rattle.dump.proofs.StateLaws.{held-kept, held-over, too-long-bad, too-long-header, after-rejected, after-lf, after-other, end-rejected, end-none, end-line, between-not}
 
 -- what is handed out from here on
 unfoldable pub run : State → List ℕ → Text → Text
@@ -31,12 +31,12 @@ remaining k ls = pick (eqb k 1) (underHeader ls) (reportFrom k ls)
 
 -- ---- after a bad header
 
-run-ended : (m : Text) (s : State) (line : List ℕ) → s .ended ≡ true → run s line m ≡ []
+run-rejected : (m : Text) (s : State) (line : List ℕ) → s .rejected ≡ true → run s line m ≡ []
 unfolding run
-run-ended [] s line e = sym (end-ended s line e)
-run-ended (x ∷ m) s line e =
-    let q = after-ended s line x e in
-    ap₂ (λ (t u : Text). t ++ u) (sym (q .2)) (ap₂ (λ (r : State) (l : List ℕ). run r l m) (sym (q .0)) (sym (q .1)) ∙ run-ended m s line e)
+run-rejected [] s line e = sym (end-rejected s line e)
+run-rejected (x ∷ m) s line e =
+    let q = after-rejected s line x e in
+    ap₂ (λ (t u : Text). t ++ u) (sym (q .2)) (ap₂ (λ (r : State) (l : List ℕ). run r l m) (sym (q .0)) (sym (q .1)) ∙ run-rejected m s line e)
 
 -- ---- a line so far
 
@@ -46,7 +46,7 @@ Held s line p =
     ((s .length ≡ length p) × (length p ≤ longestLine) × (take (s .length) line ≡ p)) ⊎ ((longestLine < s .length) × (longestLine < length p))
 
 record Partial (s : State) (line : List ℕ) (p : Text) : Type 0 where
-  going : s .ended ≡ false
+  going : s .rejected ≡ false
   some : 1 ≤ s .number
   full : length line ≡ longestLine
   no-lf : NoLF p
@@ -104,9 +104,9 @@ remaining-line k p ls t some good bad more = go (ℕ-discrete k 1)
 -- the state after its LF
 next-state :
     (s : State) (line : List ℕ) (p : Text) → Partial s line p → s .number < mostLines
-    → nextLine s line ≡ record { number = suc (s .number); length = 0; ended = eqb (s .number) 1 && not (same p header) }
+    → nextLine s line ≡ record { number = suc (s .number); length = 0; rejected = eqb (s .number) 1 && not (same p header) }
 next-state s line p g h =
-    ap₂ {C = State} (λ (k : ℕ) (b : Bool). record { number = k; length = 0; ended = b })
+    ap₂ {C = State} (λ (k : ℕ) (b : Bool). record { number = k; length = 0; rejected = b })
     (ap (λ (b : Bool). pick b (suc (s .number)) (s .number)) (lt-ltb (s .number) mostLines h))
     (ap (λ (b : Bool). eqb (s .number) 1 && not b) (held-same s line p (g .full) (g .is-held)))
 
@@ -207,7 +207,7 @@ lines-none = refl
 -- ---- every input
 
 begin-partial :
-    (k : ℕ) (line : List ℕ) → 1 ≤ k → length line ≡ longestLine → Partial (record { number = k; length = 0; ended = false }) line []
+    (k : ℕ) (line : List ℕ) → 1 ≤ k → length line ≡ longestLine → Partial (record { number = k; length = 0; rejected = false }) line []
 begin-partial k line h f = record { going = refl; some = h; full = f; no-lf = tt; is-held = inl (refl, omega arith, refl) }
 
 abbrev Remains : Text → Type 0
@@ -216,7 +216,7 @@ Remains m =
     → run s line m ≡ remaining (s .number) (lines (p ++ m))
 
 abbrev lineState : ℕ → Bool → State
-lineState k b = record { number = k; length = 0; ended = b }
+lineState k b = record { number = k; length = 0; rejected = b }
 
 -- a new line begins
 run-begun :
@@ -236,7 +236,7 @@ run-line m ih s line p g h =
     (λ e w.
     run-begun m ih k line (eqb k 1 && not (same p header)) (ap₂ (λ (b c : Bool). b && not c) (eq-eqb k 1 e) w) (g .full) (omega (arith, h))
     ∙ ap (λ (j : ℕ). remaining (suc j) (lines m)) e)
-    (λ e w. run-ended m (lineState (suc k) (eqb k 1 && not (same p header))) line (ap₂ (λ (b c : Bool). b && not c) (eq-eqb k 1 e) w))
+    (λ e w. run-rejected m (lineState (suc k) (eqb k 1 && not (same p header))) line (ap₂ (λ (b c : Bool). b && not c) (eq-eqb k 1 e) w))
     (λ d.
     run-begun m ih k line (eqb k 1 && not (same p header)) (ap (λ (b : Bool). b && not (same p header)) (ne-eqb k 1 d)) (g .full)
     (omega (arith, h)))

@@ -37,7 +37,7 @@ keep-out line p x h = sym (set-out line p x h)
 
 -- a state with another length
 abbrev pub withLength : State → ℕ → State
-withLength s l = record { number = s .number; length = l; ended = false }
+withLength s l = record { number = s .number; length = l; rejected = false }
 
 pub longer-more : (s : State) → s .length ≤ longestLine → withLength s (s .length + 1) ≡ longer s
 longer-more s h =
@@ -117,15 +117,15 @@ module _ (l : ℕ) (line : List ℕ) (full : length line ≡ longestLine) where
 -- ---- after a byte
 
 module _ (s : State) (line : List ℕ) (x : ℕ) where
-  pub after-ended : s .ended ≡ true → (s ≡ stateAfter s line x) × (line ≡ lineAfter s line x) × ([] ≡ textAfter s line x)
+  pub after-rejected : s .rejected ≡ true → (s ≡ stateAfter s line x) × (line ≡ lineAfter s line x) × ([] ≡ textAfter s line x)
   unfolding stateAfter lineAfter textAfter
-  after-ended e = (
+  after-rejected e = (
     picked s (pick (eqb x lf) (nextLine s line) (longer s)) e,
     picked line (pick (eqb x lf) line (set line (s .length) x)) e,
     picked [] (pick (eqb x lf) (lineSays (s .number) (held (s .length) line)) []) e,
   )
 
-  module _ (going : s .ended ≡ false) where
+  module _ (going : s .rejected ≡ false) where
     pub after-lf :
         x ≡ lf
         → (nextLine s line ≡ stateAfter s line x)
@@ -153,11 +153,11 @@ module _ (s : State) (line : List ℕ) (x : ℕ) where
 -- ---- at the end
 
 module _ (s : State) (line : List ℕ) where
-  pub end-ended : s .ended ≡ true → [] ≡ textAtEnd s line
+  pub end-rejected : s .rejected ≡ true → [] ≡ textAtEnd s line
   unfolding textAtEnd
-  end-ended e = picked [] (pick (isBetween s) [] (lineSays (s .number) (held (s .length) line))) e
+  end-rejected e = picked [] (pick (isBetween s) [] (lineSays (s .number) (held (s .length) line))) e
 
-  module _ (going : s .ended ≡ false) where
+  module _ (going : s .rejected ≡ false) where
     pub end-none : isBetween s ≡ true → [] ≡ textAtEnd s line
     unfolding textAtEnd
     end-none e =
@@ -179,9 +179,9 @@ module _ (s : State) (line : List ℕ) where
 
   pub next-line-made :
       (k : ℕ) (b : Bool) → k ≡ following (s .number) → b ≡ isBadHeader s line
-      → _≡_ {A = State} (record { number = k; length = 0; ended = b }) (nextLine s line)
+      → _≡_ {A = State} (record { number = k; length = 0; rejected = b }) (nextLine s line)
   next-line-made k b e q =
-      ap₂ {C = State} (λ (j : ℕ) (c : Bool). record { number = j; length = 0; ended = c }) e q
+      ap₂ {C = State} (λ (j : ℕ) (c : Bool). record { number = j; length = 0; rejected = c }) e q
 
 pub between-not : (s : State) → s .length ≢ 0 → false ≡ isBetween s
 between-not s d = ap (λ (b : Bool). b && not (eqb (s .number) 1)) (sym (ne-eqb (s .length) 0 d))

@@ -10,7 +10,7 @@ use Rattle.dump.specs.declared.state.State.{State}
 use Rattle.dump.specs.declared.state.Step.{Step}
 use Rattle.dump.specs.declared.state.Taken.{Taken}
 use Rattle.text.specs.Laid.{Lays}
-use Rattle.dump.specs.Stream.{stateAfter, lineAfter, textAfter, textAtEnd, Kept, keeping, afterAll, Run, begun, fed}
+use Rattle.dump.specs.Stream.{stateAfter, lineAfter, textAfter, textAtEnd, keeping, afterAll, Run, begun, fed}
 
 -- one byte: the state, the line buffer, and the text at place `at` of the lent one
 abbrev pub TakesByte : State → ℕ → List ℕ → List ℕ → ℕ → Step → List ℕ → List ℕ → Type 0

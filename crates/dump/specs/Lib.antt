@@ -1,4 +1,4 @@
 -- What the contracts of the dump's functions cite.
-pub mod Told
+pub mod ReportText
 pub mod Stream
 pub mod Calls

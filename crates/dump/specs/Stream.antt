@@ -8,11 +8,11 @@ use Rattle.rules.specs.Numbers.{pick}
 use Rattle.rules.specs.Text.{Text, lf, same}
 use Rattle.rules.specs.Dump.{header, longestLine, goodHeader, badHeader, lineText, lineOf}
 use Rattle.dump.specs.declared.state.State.{State}
-use Rattle.dump.specs.Told.{lineRoom}
+use Rattle.dump.specs.ReportText.{lineRoom}
 
 -- line 1, with nothing read of it
 abbrev pub atStart : State
-atStart = record { number = 1; length = 0; ended = false }
+atStart = record { number = 1; length = 0; rejected = false }
 
 -- the line so far, from its length and the lent buffer; what did not fit into that stands as zeros
 abbrev pub held : ℕ → List ℕ → Text
@@ -39,26 +39,26 @@ abbrev pub nextLine : State → List ℕ → State
 nextLine s line = record {
   number = following (s .number);
   length = 0;
-  ended = isBadHeader s line;
+  rejected = isBadHeader s line;
 }
 
 -- one more character; a length past the longest line says that it is too long, and stays
 abbrev pub longer : State → State
-longer s = record { number = s .number; length = pick (leb (s .length) longestLine) (suc (s .length)) (s .length); ended = false }
+longer s = record { number = s .number; length = pick (leb (s .length) longestLine) (suc (s .length)) (s .length); rejected = false }
 
 -- ---- After the byte x
 
 -- the state; after a bad header it stays
 unfoldable pub stateAfter : State → List ℕ → ℕ → State
-stateAfter s line x = pick (s .ended) s (pick (eqb x lf) (nextLine s line) (longer s))
+stateAfter s line x = pick (s .rejected) s (pick (eqb x lf) (nextLine s line) (longer s))
 
 -- the lent line buffer
 unfoldable pub lineAfter : State → List ℕ → ℕ → List ℕ
-lineAfter s line x = pick (s .ended) line (pick (eqb x lf) line (set line (s .length) x))
+lineAfter s line x = pick (s .rejected) line (pick (eqb x lf) line (set line (s .length) x))
 
 -- the text that is handed out: a line's, once it is whole
 unfoldable pub textAfter : State → List ℕ → ℕ → Text
-textAfter s line x = pick (s .ended) [] (pick (eqb x lf) (lineSays (s .number) (held (s .length) line)) [])
+textAfter s line x = pick (s .rejected) [] (pick (eqb x lf) (lineSays (s .number) (held (s .length) line)) [])
 
 -- ---- At the end of the input
 
@@ -69,7 +69,7 @@ isBetween s = eqb (s .length) 0 && not (eqb (s .number) 1)
 -- what a line that lacks its LF gives, or the missing first one
 unfoldable pub textAtEnd : State → List ℕ → Text
 textAtEnd s line =
-    pick (s .ended) [] (pick (isBetween s) [] (lineSays (s .number) (held (s .length) line)))
+    pick (s .rejected) [] (pick (isBetween s) [] (lineSays (s .number) (held (s .length) line)))
 
 -- ---- After several bytes
 

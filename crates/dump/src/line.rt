@@ -16,7 +16,7 @@ ghost use Rattle.rules.specs.Text.{isHex, hexBytes};
 ghost use Rattle.rules.specs.Dump.{longestLine, lineText, lineOf};
 ghost use Rattle.frame.specs.Said.{decodedOf};
 ghost use Rattle.text.specs.Laid.{Lays};
-ghost use Rattle.dump.specs.Told.{lineRoom};
+ghost use Rattle.dump.specs.ReportText.{lineRoom};
 
 // Lent buffers for the frame as received and as mended; the mended one is handed to nobody.
 fn decode_into(

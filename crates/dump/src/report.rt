@@ -11,7 +11,7 @@ ghost use Prim.Native.Nat.{_+_, _≤_};
 ghost use lib.ListN.{length};
 ghost use Rattle.rules.specs.Dump.{questioned};
 ghost use Rattle.text.specs.Laid.{Lays};
-ghost use Rattle.dump.specs.Told.{lineRoom, countsRoom, mostLetters, countsText, wordAndCounts, mendedCounts, badCounts, refusedCounts, reportText, decodedText};
+ghost use Rattle.dump.specs.ReportText.{lineRoom, countsRoom, mostLetters, countsText, wordAndCounts, mendedCounts, badCounts, refusedCounts, reportText, decodedText};
 
 pub(crate) fn put_questioned(out: &mut [u8], at: usize, number: usize) -> usize
     requires { ⌜ at + lineRoom ≤ length (now out) ⌝ }

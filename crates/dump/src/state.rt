@@ -12,7 +12,7 @@ ghost use Rattle.rules.specs.Numbers.{pick};
 ghost use Rattle.rules.specs.Text.{same};
 ghost use Rattle.rules.specs.Dump.{header, longestLine, goodHeader, badHeader};
 ghost use Rattle.text.specs.Laid.{Lays};
-ghost use Rattle.dump.specs.Told.{lineRoom};
+ghost use Rattle.dump.specs.ReportText.{lineRoom};
 ghost use Rattle.dump.specs.Stream.{atStart, held, lineSays, following, isBadHeader, nextLine, longer, isBetween};
 ghost use Rattle.dump.specs.Calls.{TakesByte, TakesPiece, Finishes};
 
@@ -21,7 +21,7 @@ ghost use Rattle.dump.specs.Calls.{TakesByte, TakesPiece, Finishes};
 pub struct State {
     pub number: usize,
     pub length: usize,
-    pub ended: bool,
+    pub rejected: bool,
 }
 
 // The next state, and the place after the text that was handed out.
@@ -43,7 +43,7 @@ pub fn start() -> State
     State {
         number: 1,
         length: 0,
-        ended: false,
+        rejected: false,
     }
 }
 
@@ -108,12 +108,12 @@ fn next_line(state: State, line: &[u8]) -> State
     requires { ⌜ length (now line) ≡ longestLine ⌝ }
     ensures { λ r. ⌜ r ≡ nextLine state (now (line .entry)) ⌝ }
 {
-    let ended = is_bad_header(state, line);
+    let rejected = is_bad_header(state, line);
     let number = following_number(state.number);
     State {
         number,
         length: 0,
-        ended,
+        rejected,
     }
 }
 
@@ -125,13 +125,13 @@ fn longer_line(state: State) -> State
         return State {
             number: state.number,
             length: length + 1,
-            ended: false,
+            rejected: false,
         };
     }
     State {
         number: state.number,
         length,
-        ended: false,
+        rejected: false,
     }
 }
 
@@ -149,7 +149,7 @@ fn step_at(state: State, byte: u8, line: &mut [u8], out: &mut [u8], at: usize) -
     requires { ⌜ length (now line) ≡ longestLine ⌝ }
     ensures { λ r. ⌜ TakesByte state byte (now (line .entry)) (now (out .entry)) at r (now (line .exit)) (now (out .exit)) ⌝ }
 {
-    if state.ended {
+    if state.rejected {
         return Step { state, at };
     }
     if byte == b'\n' {
@@ -230,7 +230,7 @@ fn is_between(state: State) -> bool
 pub fn finish(state: State, line: &[u8; LONGEST_LINE], out: &mut [u8; ROOM]) -> usize
     ensures { λ r. ⌜ Finishes state (now (line .entry)) (now (out .entry)) r (now (out .exit)) ⌝ }
 {
-    if state.ended {
+    if state.rejected {
         return 0;
     }
     if is_between(state) {

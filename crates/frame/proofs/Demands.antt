@@ -15,7 +15,7 @@ use Rattle.rules.specs.Bits.{rowBytes, stride, bitAt, frameOf, bytesOf}
 use Rattle.rules.specs.Passes as passes
 use Rattle.rules.specs.Passes.{Outcome, differences, decoded}
 use Rattle.rules.specs.Numbers as rules
-use Rattle.rules.specs.Numbers.{mostAllowed, dataBytes, frameBytes, encodeOutput, readNumber, readOutput, Figures, number, figuresOf, decodeSaid, decodeOutput}
+use Rattle.rules.specs.Numbers.{mostAllowed, dataBytes, frameBytes, encodeOutput, readNumber, readOutput, number, figuresOf, figuresWith, decodeSaid, decodeOutput}
 use Rattle.rules.proofs.Promises.Passes.{after, PassRule}
 use Rattle.rules.proofs.Promises.Refusals.{NumberTable, GoodRow, rowOfBytes, refuses}
 use Rattle.rules.proofs.Promises.EntryRules.{Given, EncodeRule, ReadRule, decodeReasons, DecodeRule}
@@ -48,7 +48,7 @@ pub record Demand₁ : Type 0 where
       (n allowance : ℕ) (received output : List ℕ) (r : Decoded) (exit : List ℕ) → Decodes n allowance received output r exit
       → NumberTable (1 ∷ 2 ∷ 3 ∷ 4 ∷ []) (7 ∷ 8 ∷ []) (figures r .number)
       (bytesOf n (decoded n allowance (frameOf n received) .last)) received output exit
-  -- a good row has at least 3 bytes, and any other is empty
+  -- a row that is there takes 3 bytes or more, and any other is empty
   pub row :
       (n : ℕ) (frame : List ℕ) (i : ℕ) (r : List ℕ) → TakesRow n frame i r
       → (GoodRow n frame i → (r ≡ rowOfBytes n frame i) × (length r ≡ rowBytes n) × (3 ≤ rowBytes n))
@@ -83,12 +83,9 @@ DecodeSays n a received output (Refused k) exit = (k ≢ 0) × Given (decodeReas
 DecodeSays n a received output (Ended r) exit =
     Given (decodeReasons n a received output) 0 × EndingSays n a (frameOf n received) received (r .ending) r exit
 
--- a report's fields by their names, and the values that C and the report of a dump are given
+-- a report's fields by their names
 abbrev pub ended : Ending → ℕ → ℕ → ℕ → ℕ → Decoded
 ended e p f r c = Ended (record { ending = e; passes = p; flips = f; rows = r; columns = c })
-
-abbrev pub values : ℕ → ℕ → ℕ → ℕ → ℕ → Figures
-values k p f r c = record { number = k; passes = p; flips = f; rows = r; columns = c }
 
 pub record Demand₂ : Type 0 where
   -- the rule of each entry point names each number beside its reason
@@ -101,11 +98,11 @@ pub record Demand₂ : Type 0 where
       (n allowance : ℕ) (received output : List ℕ) (r : Decoded) (exit : List ℕ) → Decodes n allowance received output r exit
       → DecodeSays n allowance received output r exit
   -- each answer's number and values
-  pub refused-is : (k : ℕ) → figures (Refused k) ≡ values k 0 0 0 0
-  pub clean-is : (p f r c : ℕ) → figures (ended Clean p f r c) ≡ values 0 p f 0 0
-  pub repaired-is : (p f r c : ℕ) → figures (ended Repaired p f r c) ≡ values 0 p f 0 0
-  pub stuck-is : (p f r c : ℕ) → figures (ended Stuck p f r c) ≡ values 7 p f r c
-  pub spent-is : (p f r c : ℕ) → figures (ended Spent p f r c) ≡ values 8 p f r c
+  pub refused-is : (k : ℕ) → figures (Refused k) ≡ figuresWith k 0 0 0 0
+  pub clean-is : (p f r c : ℕ) → figures (ended Clean p f r c) ≡ figuresWith 0 p f 0 0
+  pub repaired-is : (p f r c : ℕ) → figures (ended Repaired p f r c) ≡ figuresWith 0 p f 0 0
+  pub stuck-is : (p f r c : ℕ) → figures (ended Stuck p f r c) ≡ figuresWith 7 p f r c
+  pub spent-is : (p f r c : ℕ) → figures (ended Spent p f r c) ≡ figuresWith 8 p f r c
   -- what was encoded is read back; the message's entries are bytes
   pub back :
       (n : ℕ) (message output frame : List ℕ) → Encodes n message output 0 frame → ((p : ℕ) → getD message p 0 < 256)
@@ -136,13 +133,13 @@ pub record Demand₃ : Type 0 where
       → (received : List ℕ) → length received ≡ frameBytes n → differences n (frameOf n written) (frameOf n received) ≤ 8
       → ComesBack n written received
   -- and any with two rows p and q lost whole
-  pub rows-gone :
+  pub rows-lost :
       (n : ℕ) (message blank written : List ℕ) → Encodes n message blank 0 written
       → (received : List ℕ) (p q : ℕ) → length received ≡ frameBytes n
       → ((i j : ℕ) → i < n → j < n → i ≢ p → i ≢ q → bitAt written (i * stride n + j) ≡ bitAt received (i * stride n + j))
       → ComesBack n written received
   -- or two columns
-  pub columns-gone :
+  pub columns-lost :
       (n : ℕ) (message blank written : List ℕ) → Encodes n message blank 0 written
       → (received : List ℕ) (p q : ℕ) → length received ≡ frameBytes n
       → ((i j : ℕ) → i < n → j < n → j ≢ p → j ≢ q → bitAt written (i * stride n + j) ≡ bitAt received (i * stride n + j))
@@ -288,10 +285,10 @@ demand₃ = record {
   repairs = back-here;
   eight-bits = λ n message blank written e received h few.
       back-here n message blank written e received (repairs .eight-bits n written received h few);
-  rows-gone = λ n message blank written e received p q h kept.
-      back-here n message blank written e received (repairs .rows-gone n written received p q h kept);
-  columns-gone = λ n message blank written e received p q h kept.
-      back-here n message blank written e received (repairs .columns-gone n written received p q h kept);
+  rows-lost = λ n message blank written e received p q h kept.
+      back-here n message blank written e received (repairs .rows-lost n written received p q h kept);
+  columns-lost = λ n message blank written e received p q h kept.
+      back-here n message blank written e received (repairs .columns-lost n written received p q h kept);
   apart = λ n message blank written message′ blank′ written′ e e′ d received received′ s s′.
       repairs .apart n written written′ received received′ (writes n message blank written e)
       (writes n message′ blank′ written′ e′) d s s′;

@@ -6,23 +6,22 @@ use native.Mathlib.Nat.{add-comm}
 use native.Mathlib.Omega.{arith}
 use lib.Bits.{bitOr, or-shifted-r}
 use lib.Pow.{shl-exact}
-use Rattle.rules.specs.Numbers.{Decoded, figuresOf}
+use Rattle.rules.specs.Numbers.{Decoded, figuresOf, figuresWith}
 use Rattle.rules.specs.Packed.{packedFigures, HasRoom}
 use Rattle.frame.specs.declared.decode.Ending.{Ending}
 use Rattle.frame.specs.declared.decode.Report.{Report}
 use Rattle.frame.specs.declared.decode.Decoded as code
 use Rattle.frame.specs.Said.{decodedOf, reportFigures, figures, figuresFor}
 use Rattle.frame.proofs.SaidLaws.{figures-said}
-use Rattle.host.specs.Calls.{valuesOf}
 
 -- a value of j bits above the k bits that are there
 above : (j k b a : ℕ) → j + k ≤ 64 → b < 2 ^ k → a < 2 ^ j → bitOr b (a * 2 ^ k % 2 ^ 64) ≡ b + a * 2 ^ k
 above j k b a room hb ha = ap (bitOr b) (shl-exact j k 64 ha room) ∙ or-shifted-r a k b hb ∙ add-comm (a * 2 ^ k) b
 
 pub or-packed :
-    (k p f r c : ℕ) → HasRoom (valuesOf k p f r c)
+    (k p f r c : ℕ) → HasRoom (figuresWith k p f r c)
     → bitOr (bitOr (bitOr (bitOr k (p * 2 ^ 8 % 2 ^ 64)) (f * 2 ^ 16 % 2 ^ 64)) (r * 2 ^ 32 % 2 ^ 64)) (c * 2 ^ 48 % 2 ^ 64)
-    ≡ packedFigures (valuesOf k p f r c)
+    ≡ packedFigures (figuresWith k p f r c)
 unfolding packedFigures
 or-packed k p f r c h =
     ap (λ x. bitOr (bitOr (bitOr x (f * 2 ^ 16 % 2 ^ 64)) (r * 2 ^ 32 % 2 ^ 64)) (c * 2 ^ 48 % 2 ^ 64))

@@ -3,11 +3,8 @@
 use mathlib.Core.Path.{_≡_}
 use mathlib.Core.List.{List}
 use Prim.Native.Nat.{ℕ}
-use Rattle.rules.specs.Numbers.{Figures, figuresOf, decodeSaid, decodeOutput}
+use Rattle.rules.specs.Numbers.{figuresOf, decodeSaid, decodeOutput}
 use Rattle.rules.specs.Packed.{packedFigures}
-
-abbrev pub valuesOf : ℕ → ℕ → ℕ → ℕ → ℕ → Figures
-valuesOf k p f r c = record { number = k; passes = p; flips = f; rows = r; columns = c }
 
 abbrev pub DecodesPacked : ℕ → ℕ → List ℕ → List ℕ → ℕ → List ℕ → Type 0
 DecodesPacked n allowance received output r exit =

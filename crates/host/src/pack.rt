@@ -6,19 +6,28 @@ use word::numbers::DONE;
 use word::numbers::SPENT;
 use word::numbers::STUCK;
 ghost use mathlib.Core.Path.{_≡_};
+ghost use Rattle.rules.specs.Numbers.{figuresWith};
 ghost use Rattle.rules.specs.Packed.{packedFigures, HasRoom};
 ghost use Rattle.frame.specs.Said.{reportFigures, figures};
-ghost use Rattle.host.specs.Calls.{valuesOf};
+
+// The bit at which each value stands; the number is at bit 0.
+const PASSES_AT: u64 = 8;
+
+const FLIPS_AT: u64 = 16;
+
+const ROWS_AT: u64 = 32;
+
+const COLUMNS_AT: u64 = 48;
 
 fn pack(number: u32, passes: usize, flips: usize, rows: usize, columns: usize) -> u64
-    requires { ⌜ HasRoom (valuesOf number passes flips rows columns) ⌝ }
-    ensures { λ r. ⌜ r ≡ packedFigures (valuesOf number passes flips rows columns) ⌝ }
+    requires { ⌜ HasRoom (figuresWith number passes flips rows columns) ⌝ }
+    ensures { λ r. ⌜ r ≡ packedFigures (figuresWith number passes flips rows columns) ⌝ }
 {
     (number as u64)
-        | ((passes as u64) << 8)
-        | ((flips as u64) << 16)
-        | ((rows as u64) << 32)
-        | ((columns as u64) << 48)
+        | ((passes as u64) << PASSES_AT)
+        | ((flips as u64) << FLIPS_AT)
+        | ((rows as u64) << ROWS_AT)
+        | ((columns as u64) << COLUMNS_AT)
 }
 
 // What is not given is zero: no rows and columns where it succeeded.

@@ -10,7 +10,7 @@ use libc::STDIN_FILENO;
 use libc::STDOUT_FILENO;
 ghost use Prim.Native.Nat.{_≤_};
 ghost use lib.ListN.{length};
-ghost use Rattle.dump.specs.Told.{lineRoom};
+ghost use Rattle.dump.specs.ReportText.{lineRoom};
 ghost use Rattle.dump.specs.Stream.{atStart};
 ghost use Rattle.dump.specs.Calls.{LeavesPart, LeavesSome};
 

@@ -137,6 +137,10 @@ figuresOf (ended stuck p f r c) = record { number = 7; passes = p; flips = f; ro
 figuresOf (ended spent p f r c) = record { number = 8; passes = p; flips = f; rows = r; columns = c }
 
 -- the number alone
+-- figures by their order in the report
+abbrev pub figuresWith : ℕ → ℕ → ℕ → ℕ → ℕ → Figures
+figuresWith k p f r c = record { number = k; passes = p; flips = f; rows = r; columns = c }
+
 abbrev pub number : Decoded → ℕ
 number d = figuresOf d .number
 

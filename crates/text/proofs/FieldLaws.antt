@@ -4,7 +4,7 @@ use mathlib.Core.Path.{_≡_, refl, sym, ap, ap₂, _∙_}
 use mathlib.Core.Logic.{_⊎_, inl, inr}
 use mathlib.Core.Bool.{Bool, true, false, _&&_, and-false, false≢true, true≢false}
 use mathlib.Core.List.{List, [], _∷_}
-use Prim.Native.Nat.{ℕ, suc, _+_, _-_, _^_, _≤_, _<_}
+use Prim.Native.Nat.{ℕ, suc, _+_, _-_, _≤_, _<_}
 use native.Mathlib.Omega.{arith}
 use lib.Dec.{eqb, ltb}
 use lib.ListN.{length, take, drop, getD, length-drop}
@@ -19,7 +19,7 @@ use Rattle.text.specs.declared.number.Decimal.{Decimal}
 use Rattle.text.specs.declared.number.Decimal.the-variants.{Value, Bad}
 use Rattle.text.specs.declared.record.Field.{Field}
 use Rattle.text.specs.declared.record.Head.{Head}
-use Rattle.text.proofs.ReadLaws.{number-read, number-not, decimal-below}
+use Rattle.text.proofs.ReadLaws.{number-read, number-not}
 
 -- ---- the first field and the others
 
@@ -152,15 +152,6 @@ module _ (s : Text) (from : ℕ) where
       go : (b : Bool) → closedNumber s from ≡ b → Broken
       go true q = absurd (true≢false (sym (ap (λ (x : Field). x .«is_good») (field-closed q)) ∙ e))
       go false q = bad-broken q
-
-  pub field-below : fieldOf s from .value < 10 ^ 9
-  field-below = go (closedNumber s from) refl
-    where
-      go : (b : Bool) → closedNumber s from ≡ b → fieldOf s from .value < 10 ^ 9
-      go true q =
-          rw (ap (λ (x : Field). x .value) (field-closed q))
-          (decimal-below the-field (and-both (ltb tab-at (length (drop from s))) (isDecimal the-field) q .1))
-      go false q = rw (ap (λ (x : Field). x .value) (field-broken q)) (omega arith)
 
 -- ---- three numbers
 

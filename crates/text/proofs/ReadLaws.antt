@@ -5,7 +5,7 @@ use mathlib.Core.Logic.{_≢_}
 use mathlib.Core.Bool.{Bool, true, false, not, _&&_, _||_, and-false, false≢true, true≢false}
 use mathlib.Core.List.{List, [], _∷_}
 use Prim.Native.Nat.{ℕ, zero, suc, _+_, _*_, _-_, _/_, _%_, _^_, _≤_, _<_}
-use native.Mathlib.Nat.{pow-suc, pow-le-pow-right, add-zero}
+use native.Mathlib.Nat.{pow-suc, pow-le-pow-right}
 use native.Mathlib.Numerals.{add-one}
 use native.Mathlib.Omega.{arith}
 use lib.Dec.{eqb, leb}
@@ -295,27 +295,6 @@ number-not s e = go (isDecimal s) e
     go : (b : Bool) → pick b (Value (decimalValue s)) Bad ≡ Bad → b ≡ false
     go true e = absurd (true≢false (ap hasValue e))
     go false e = refl
-
-value-below : (v k : ℕ) (s : Text) → v < 10 ^ k → every isDigit s ≡ true → valueFrom v s < 10 ^ (k + length s)
-unfolding valueFrom every
-value-below v k [] h e = rw (add-zero k) h
-value-below v k (x ∷ s) h e =
-    let d = and-both (isDigit x) (every isDigit s) e in
-    let most : x ≤ 57 = leb-true x 57 (and-both (leb 48 x) (leb x 57) (d .0) .1) in
-    let p : 10 ^ suc k ≡ 10 ^ k * 10 = pow-suc 10 k in
-    let q : k + suc (length s) ≡ suc k + length s = omega arith in
-    rw q (value-below (v * 10 + digitValue x) (suc k) s (omega arith) (d .1))
-
-pub decimal-below : (s : Text) → isDecimal s ≡ true → decimalValue s < 10 ^ 9
-unfolding isDecimal
-decimal-below s e =
-    let a = and-both (leb 1 (length s) && leb (length s) 9 && every isDigit s) (eqb (length s) 1 || not (eqb (digitValue (getD s 0 0)) 0)) e in
-    let b = and-both (leb 1 (length s) && leb (length s) 9) (every isDigit s) (a .0) in
-    let c = and-both (leb 1 (length s)) (leb (length s) 9) (b .0) in
-    let l : 0 + length s ≤ 9 = omega (arith, leb-true (length s) 9 (c .1)) in
-    let p : 10 ^ (0 + length s) ≤ 10 ^ 9 = pow-le-pow-right (omega arith) {i = 0 + length s} {j = 9} l in
-    let v : decimalValue s < 10 ^ (0 + length s) = value-below 0 0 s (omega arith) (b .1) in
-    omega arith
 
 -- the part that was laid, and one as long
 pub hex-part :

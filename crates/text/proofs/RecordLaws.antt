@@ -4,7 +4,7 @@ use mathlib.Core.Path.{_≡_, refl, sym, ap, ap₂, _∙_}
 use mathlib.Core.Logic.{_≢_, inl, inr}
 use mathlib.Core.Bool.{Bool, true, false, _&&_, false≢true, true≢false}
 use mathlib.Core.List.{List, [], _∷_}
-use Prim.Native.Nat.{ℕ, suc, _+_, _%_, _^_, _≤_, _<_}
+use Prim.Native.Nat.{ℕ, suc, _+_, _%_, _≤_, _<_}
 use native.Mathlib.Omega.{arith}
 use lib.Dec.{eqb, leb, ltb}
 use lib.ListN.{length, drop, getD}
@@ -18,7 +18,7 @@ use Rattle.rules.proofs.Laws.TextLaws.{all-so, every-all, fields-one}
 use Rattle.text.specs.Read.{fieldOf, badHead, headOf}
 use Rattle.text.specs.declared.record.Field.{Field}
 use Rattle.text.specs.declared.record.Head.{Head}
-use Rattle.text.proofs.FieldLaws.{Closed, Broken, field-good, field-not, field-below, goodHead, head-joined, head-good, fields-closed, fields-open}
+use Rattle.text.proofs.FieldLaws.{Closed, Broken, field-good, field-not, goodHead, head-joined, head-good, fields-closed, fields-open}
 
 -- ---- the form of a line, from its fields
 
@@ -191,13 +191,3 @@ module _ (s : Text) where
       ∙ ap₂ (λ (i j : ℕ). aRecord i j (decimalValue (z .first)) (hexBytes r)) (x .says) (y .says)
       ∙ ap (λ (k : ℕ). aRecord (one .value) (two .value) k (hexBytes r)) (z .says)
       ∙ ap (λ (h : Head). aRecord (h .number) (h .n) (h .allowance) (hexBytes (drop (h .frame) s))) (sym (head-is good))
-
-  pub head-numbers : (headOf s .number < 10 ^ 9) × (headOf s .n < 10 ^ 9) × (headOf s .allowance < 10 ^ 9)
-  head-numbers = rw (head-joined s refl refl refl) (go (one .«is_good» && two .«is_good» && three .«is_good»))
-    where
-      of : Bool → Head
-      of u = pick u (goodHead one two three) badHead
-
-      go : (u : Bool) → (of u .number < 10 ^ 9) × (of u .n < 10 ^ 9) × (of u .allowance < 10 ^ 9)
-      go true = (field-below s 0, field-below s (one .after), field-below s (two .after))
-      go false = (omega arith, omega arith, omega arith)

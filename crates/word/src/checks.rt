@@ -1,9 +1,7 @@
 // The checks of a word anywhere in a buffer: rows and columns are one loop.
 use crate::bits::bit;
 ghost use mathlib.Core.Path.{_≡_};
-ghost use mathlib.Core.Bool.{Bool};
 ghost use Prim.Native.Nat.{_<_};
-ghost use Rattle.algebra.specs.Tables.{num};
 ghost use Rattle.algebra.specs.Remainder.{shift, isOdd};
 ghost use Rattle.rules.specs.Words.{g, checks};
 ghost use Rattle.laws.specs.InPlace.{wordAt, Inside};

@@ -1,4 +1,4 @@
-// The numbers that frames are answered by, in the order in which they are looked for. Number 0 says that it was done.
+// The numbers of the rules that code gives. Refusals, 1 to 6, are looked for in this order.
 pub const DONE: u32 = 0;
 
 pub const BAD_N: u32 = 1;

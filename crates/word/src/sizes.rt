@@ -6,7 +6,7 @@ ghost use Rattle.rules.specs.Bits.{rowBytes};
 ghost use Rattle.rules.specs.Numbers.{outside};
 
 // The lengths that a word may have, and how many of its bits are no data.
-pub const SHORTEST: usize = 18;
+const SHORTEST: usize = 18;
 
 pub const LONGEST: usize = 256;
 

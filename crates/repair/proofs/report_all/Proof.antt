@@ -3,7 +3,7 @@
 use mathlib.Core.Path.{_≡_, refl}
 use Prim.Native.Nat.{_≤_}
 use lib.ListN.{length}
-use Rattle.dump.specs.Told.{lineRoom}
+use Rattle.dump.specs.ReportText.{lineRoom}
 use Rattle.dump.specs.Stream.{atStart}
 use Rattle.dump.specs.Calls.{LeavesSome}
 use Rattle.dump.proofs.HandedLaws.{some-none, some-then}

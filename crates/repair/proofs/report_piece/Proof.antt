@@ -10,7 +10,7 @@ use lib.Seq.{length-take-le}
 use borrow.Author.Needs.{needs}
 use Rattle.dump.proofs.FeedLaws.{piece-within, piece-some}
 use Rattle.dump.proofs.HandedLaws.{leaves-none, leaves-rest}
-use Rattle.dump.specs.Told.{lineRoom}
+use Rattle.dump.specs.ReportText.{lineRoom}
 use Rattle.dump.specs.Calls.{Leaves}
 use Rattle.repair.proofs.report_piece.Statement.{statement}
 use Rattle.repair.proofs.report_piece.Tie as tie

@@ -13,7 +13,7 @@ use Rattle.rules.specs.Words.{dataBits, Answer, codeword, onePlace, twoP
 use Rattle.rules.specs.Frames.{Frame, isFrame}
 use Rattle.rules.specs.Bits.{rowBytes, wordOf, frameOf, wordBytes, bytesOf, spareOnes}
 use Rattle.rules.specs.Passes.{Ending, clean, repaired, stuck, spent, Outcome, decoded}
-use Rattle.rules.specs.Numbers.{pick, outside, notAllowed, notLong, frameBytes, dataBytes, RefusalList, first, sizeRefusals, encodeNumber, encodeOutput, readNumber, readOutput, refused, ended, told, handedOut, decodeRefusal, decodeSaid, decodeOutput, Figures, figuresOf, wordRefused, answered, wordRefusal, wordSaid, wordNumber, wordOutput, rowPart, Exit, encode, read, decode, decodeWord}
+use Rattle.rules.specs.Numbers.{pick, outside, notAllowed, notLong, frameBytes, dataBytes, RefusalList, first, sizeRefusals, encodeNumber, encodeOutput, readNumber, readOutput, refused, ended, told, handedOut, decodeRefusal, decodeSaid, decodeOutput, figuresOf, figuresWith, wordRefused, answered, wordRefusal, wordSaid, wordNumber, wordOutput, rowPart, Exit, encode, read, decode, decodeWord}
 use Rattle.rules.proofs.Laws.Shape.{frameOf-square, wordOf-length}
 use Rattle.rules.proofs.Laws.PackLaws.{spare-zero, spare-some}
 use Rattle.rules.proofs.Laws.NumberLaws.{range-test, equal-test, true-test, decode-accepts, word-accepts, at-zero, encode-refused, read-refused, decode-refused, word-refused}
@@ -24,16 +24,13 @@ use Rattle.rules.proofs.Promises.Passes.{passes-promise}
 use Rattle.rules.proofs.Promises.EntryRules.{Reasons, Given, sizes, SpareSet, AllCodewords, encodeReasons, EncodeRule, readReasons, ReadRule, decodeReasons, written, DecodeRule, wordReasons, writtenWord, WordRule, RowRule}
 use Rattle.rules.proofs.Promises.Determined.{frame-all, determined}
 
-abbrev pub fiveFigures : ℕ → ℕ → ℕ → ℕ → ℕ → Figures
-fiveFigures number p f r c = record { number = number; passes = p; flips = f; rows = r; columns = c }
-
 -- the number and the values, case by case
 pub record NumbersPromise : Type 0 where
-  pub refused-is : (r : ℕ) → figuresOf (refused r) ≡ fiveFigures r 0 0 0 0
-  pub clean-is : (p f r c : ℕ) → figuresOf (ended clean p f r c) ≡ fiveFigures 0 p f 0 0
-  pub repaired-is : (p f r c : ℕ) → figuresOf (ended repaired p f r c) ≡ fiveFigures 0 p f 0 0
-  pub stuck-is : (p f r c : ℕ) → figuresOf (ended stuck p f r c) ≡ fiveFigures 7 p f r c
-  pub spent-is : (p f r c : ℕ) → figuresOf (ended spent p f r c) ≡ fiveFigures 8 p f r c
+  pub refused-is : (r : ℕ) → figuresOf (refused r) ≡ figuresWith r 0 0 0 0
+  pub clean-is : (p f r c : ℕ) → figuresOf (ended clean p f r c) ≡ figuresWith 0 p f 0 0
+  pub repaired-is : (p f r c : ℕ) → figuresOf (ended repaired p f r c) ≡ figuresWith 0 p f 0 0
+  pub stuck-is : (p f r c : ℕ) → figuresOf (ended stuck p f r c) ≡ figuresWith 7 p f r c
+  pub spent-is : (p f r c : ℕ) → figuresOf (ended spent p f r c) ≡ figuresWith 8 p f r c
   pub word-refused-is : (r : ℕ) → wordNumber (wordRefused r) ≡ r
   -- codeword, one place, two places
   pub codeword-is : wordNumber (answered codeword) ≡ 0

@@ -34,9 +34,9 @@ pub record Packs : Type 0 where
   pub fits : (n allowance : ℕ) (received output : List ℕ) → HasRoom (figuresOf (decodeSaid n allowance received output))
   pub in-64-bits : (f : Figures) → HasRoom f → packedFigures f < 2 ^ 64
   pub read-back : (f : Figures) → HasRoom f → unpackedFigures (packedFigures f) ≡ f
-  -- RULES 10, item C at allowance 1, as a number. In hex, 0012 0002 0000 01 08
+  -- five values that all differ, as a number. In hex, 0100 00C8 1200 20 08
   pub example :
-      packedFigures (record { number = 8; passes = 1; flips = 0; rows = 2; columns = 18 }) ≡ 5066558170726664
+      packedFigures (record { number = 8; passes = 32; flips = 4608; rows = 200; columns = 256 }) ≡ 72058453333385224
 
 -- ---- a word's flips
 

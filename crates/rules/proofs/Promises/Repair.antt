@@ -82,12 +82,12 @@ pub record RepairPromise : Type 0 where
       (n : ℕ) (written received : List ℕ) → length received ≡ frameBytes n
       → differences n (frameOf n written) (frameOf n received) ≤ 8 → Spoiled n written received
   -- any two rows p and q lost whole
-  pub rows-gone :
+  pub rows-lost :
       (n : ℕ) (written received : List ℕ) (p q : ℕ) → length received ≡ frameBytes n
       → ((i j : ℕ) → i < n → j < n → i ≢ p → i ≢ q → bitAt written (i * stride n + j) ≡ bitAt received (i * stride n + j))
       → Spoiled n written received
   -- any two columns p and q lost whole
-  pub columns-gone :
+  pub columns-lost :
       (n : ℕ) (written received : List ℕ) (p q : ℕ) → length received ≡ frameBytes n
       → ((i j : ℕ) → i < n → j < n → j ≢ p → j ≢ q → bitAt written (i * stride n + j) ≡ bitAt received (i * stride n + j))
       → Spoiled n written received
@@ -182,11 +182,11 @@ not-named i p q h =
     split false true h = absurd (true≢false h)
     split false false h = (refl, refl)
 
-rows-gone-here :
+rows-lost-here :
     (n : ℕ) (written received : List ℕ) (p q : ℕ) → length received ≡ frameBytes n
     → ((i j : ℕ) → i < n → j < n → i ≢ p → i ≢ q → bitAt written (i * stride n + j) ≡ bitAt received (i * stride n + j))
     → Spoiled n written received
-rows-gone-here n written received p q long same = (
+rows-lost-here n written received p q long same = (
   long,
   two-rows n (frameOf n written) (frameOf n received) p q
       (λ i l out.
@@ -207,8 +207,8 @@ repairs =
       back = back-here;
       apart = apart-here;
       eight-bits = λ n written received long d. (long, eight n (frameOf n written) (frameOf n received) d);
-      rows-gone = rows-gone-here;
-      columns-gone = λ n written received p q long same. (
+      rows-lost = rows-lost-here;
+      columns-lost = λ n written received p q long same. (
         long,
         two-columns n (frameOf n written) (frameOf n received) (frameOf-square n written) (frameOf-square n received) p q
             (λ i j l m out.

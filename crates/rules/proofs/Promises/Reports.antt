@@ -25,7 +25,7 @@ use Rattle.rules.proofs.Promises.Lines.{NoLF, joinedLines, lines-promis
 
 -- ---- The statement
 
--- frames that end in each way that a short dump can show, a refused one, and an empty line
+-- the frames of the bench items A to D, a refused one, and an empty line
 abbrev pub Example : Type 0
 Example =
     report (
@@ -44,6 +44,15 @@ Example =
     ++ ascii "3\tstuck\t2\t0\t3\t3\n"
     ++ ascii "4\trefused\t1\t0\t0\t0\n"
     ++ ascii "?\t7\n"
+
+-- item C at allowance 1: four counts that all differ
+abbrev pub SpentExample : Type 0
+SpentExample =
+    report (
+    ascii "frames\t1\n"
+    ++ ascii "2\t18\t1\tFFFFC0FFFFC0000000000000000000000000000000000000000000000000000000000000000000000000000000000000000000000000\n"
+    )
+    ≡ ascii "repair\t1\n" ++ ascii "2\tspent\t1\t0\t2\t18\n"
 
 -- a record that breaks off, after an empty line
 abbrev pub CutExample : Type 0
@@ -72,6 +81,7 @@ RefusedBy (ended e p f r c) = Unit {0}
 -- what is promised of the report
 pub record Reports : Type 0 where
   pub example : Example
+  pub spent-example : SpentExample
   -- under its own first line the report has what each line gives; the line at index i after the header is line i + 2
   pub numbered :
       (input : Text) (later : List Text) → lines input ≡ ascii "frames\t1" ∷ later
@@ -97,11 +107,15 @@ pub record Reports : Type 0 where
   -- each line gives one line, closed by LF
   pub one-line : (k : ℕ) (l : Line) → (t : Text) × NoLF t × (lineText k l ≡ t ++ ascii "\n")
 
--- ---- The example: antt computes it
+-- ---- The examples: antt computes them
 
 shown : Example
 unfolding computing
 shown = refl
+
+spent-shown : SpentExample
+unfolding computing
+spent-shown = refl
 
 -- ---- the header
 
@@ -257,6 +271,7 @@ pub reports : Reports
 unfolding given
 reports = record {
   example = shown;
+  spent-example = spent-shown;
   numbered = lines-numbered;
   bad-header = header-bad;
   no-header = header-none;

@@ -2,7 +2,7 @@
 -- Assumes nothing.
 use borrow.Author.Needs.{needs}
 use Rattle.text.proofs.ReadLaws.{hex-part, hex-part-length}
-use Rattle.dump.proofs.ToldLaws.{said-of}
+use Rattle.dump.proofs.ReportTextLaws.{said-of}
 use Rattle.dump.proofs.line.decode_into.Statement.{statement}
 use Rattle.dump.proofs.line.decode_into.Tie as tie
 

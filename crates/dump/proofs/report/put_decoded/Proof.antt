@@ -3,8 +3,8 @@
 use mathlib.Core.Path.{refl, ap}
 use Rattle.rules.specs.Text.{ascii}
 use Rattle.frame.specs.declared.decode.Decoded.the-variants.{Refused, Ended}
-use Rattle.dump.specs.Told.{wordAndCounts}
-use Rattle.dump.proofs.ToldLaws.{told-as}
+use Rattle.dump.specs.ReportText.{wordAndCounts}
+use Rattle.dump.proofs.ReportTextLaws.{told-as}
 use borrow.Author.Needs.{needs}
 use Rattle.dump.proofs.report.put_decoded.Statement.{statement}
 use Rattle.dump.proofs.report.put_decoded.Tie as tie

@@ -3,7 +3,7 @@
 use mathlib.Core.Path.{refl}
 use Rattle.rules.specs.Text.{ascii}
 use Rattle.frame.specs.declared.decode.Ending.the-variants.{Clean, Repaired, Stuck, Spent}
-use Rattle.dump.proofs.ToldLaws.{told-here}
+use Rattle.dump.proofs.ReportTextLaws.{told-here}
 use borrow.Author.Needs.{needs}
 use Rattle.dump.proofs.report.put_report.Statement.{statement}
 use Rattle.dump.proofs.report.put_report.Tie as tie

@@ -2,12 +2,12 @@
 -- Assumes nothing.
 use mathlib.Core.Path.{sym, _∙_}
 use borrow.Author.Needs.{needs}
-use Rattle.dump.proofs.StateLaws.{lays-as, lays-none, end-ended, end-none, end-line}
+use Rattle.dump.proofs.StateLaws.{lays-as, lays-none, end-rejected, end-none, end-line}
 use Rattle.dump.proofs.state.finish.Statement.{statement}
 use Rattle.dump.proofs.state.finish.Tie as tie
 
 returns : tie.Need-returns
-returns c = let a = c .before .args in lays-none _ 0 _ (search needs) (end-ended (a .state) (a .line .now) (c .if1 .taken))
+returns c = let a = c .before .args in lays-none _ 0 _ (search needs) (end-rejected (a .state) (a .line .now) (c .if1 .taken))
 
 is-between-requires : tie.Need-is-between-requires
 is-between-requires c κs = search needs

@@ -2,12 +2,12 @@
 -- Assumes nothing.
 use mathlib.Core.Path.{_∙_}
 use borrow.Author.Needs.{needs}
-use Rattle.dump.proofs.StateLaws.{lays-as, lays-none, after-ended, after-lf, after-other}
+use Rattle.dump.proofs.StateLaws.{lays-as, lays-none, after-rejected, after-lf, after-other}
 use Rattle.dump.proofs.state.step_at.Statement.{statement}
 use Rattle.dump.proofs.state.step_at.Tie as tie
 
 returns : tie.Need-returns
-returns c = let a = c .before .before .before .args in let q = after-ended (a .state) (a .line .now) (a .byte) (c .if1 .taken) in (q .0, q .1, lays-none _ (a .at) _ (search needs) (q .2))
+returns c = let a = c .before .before .before .args in let q = after-rejected (a .state) (a .line .now) (a .byte) (c .if1 .taken) in (q .0, q .1, lays-none _ (a .at) _ (search needs) (q .2))
 
 next-line-requires : tie.Need-next-line-requires
 next-line-requires c κs = search needs

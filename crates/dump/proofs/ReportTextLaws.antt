@@ -19,7 +19,7 @@ use Rattle.frame.specs.declared.decode.Decoded.{Decoded}
 use Rattle.frame.specs.Said.{decodedOf}
 use Rattle.text.specs.Laid.{Lays}
 use Rattle.dump.specs.declared.report.Counts.{Counts}
-use Rattle.dump.specs.Told.{wordAndCounts, textFor, reportText, decodedText}
+use Rattle.dump.specs.ReportText.{wordAndCounts, textFor, reportText, decodedText}
 
 -- one ending's line is the report's, where that ended so and the counts are that ending's
 pub told-here :
