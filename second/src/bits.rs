@@ -2,7 +2,7 @@
 
 use crate::answer::Answer;
 
-/// Up to 256 bits. Place 0 is the top bit of the first number; places past the
+/// Up to 256 bits, from the top of the first number down; places past the
 /// word's end are zero.
 #[derive(Clone, Copy, Debug, PartialEq, Eq)]
 pub struct Word(pub [u64; 4]);

@@ -1,7 +1,7 @@
 //! Encodes, repairs and reads square code frames.
 //!
-//! A frame has n rows of n bits, 18 ≤ n ≤ 256, and every row and every column
-//! is a codeword: the first n − 1 bits, read as a polynomial, are divisible by
+//! A frame is a square of n by n bits, 18 ≤ n ≤ 256. All its rows and columns
+//! are codewords: the first n − 1 bits, read as a polynomial, are divisible by
 //! a fixed g of degree 16, and the number of ones is even.
 //!
 //! # How it works

@@ -16,7 +16,7 @@ uint8_t probe_power(size_t e);
 /* The exponent below 255 of which the byte x is the power; 0 for x = 0. */
 size_t probe_logarithm(uint8_t x);
 
-/* Bit 0 is the top bit of the first byte. */
+/* Bits go from the top of a byte down. */
 enum {
     SHORTEST = 18,
     LONGEST = 256,
