@@ -40,7 +40,7 @@ pub fn check(sides: &Sides, maker: &mut Maker, score: &mut Score) {
     let dump = dump(maker);
     let (program, said) = best(|| sides.program.run(&dump, Style::File));
     let (second, expected) = best(|| report_with(sides.code, &dump));
-    let name = format!("{} frames of {} bits, {} of them wrong", grouped(FRAMES as u64), N, WRONG);
+    let name = format!("{} frames at n = {}, {} wrong bits in each", grouped(FRAMES as u64), N, WRONG);
     score.count(&name, said.fault(&expected), &format!("{} bytes", grouped(dump.len() as u64)));
     let [ours, theirs] = [program, second]
         .map(|seconds: f64| format!("{:.3} s ({:.0} us a frame)", seconds, seconds * 1e6 / FRAMES as f64));
