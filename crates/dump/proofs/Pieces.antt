@@ -26,7 +26,7 @@ use Rattle.dump.proofs.CutLaws.{run-handed, handed-cut}
 -- ---- The statement
 
 -- a call that takes input: what it was given and lent besides the state and the line buffer, what it returned, and what the line
--- buffer and the lent one held then
+-- buffer and the lent one had then
 pub data Call : Type 0 where
   byteCall : ℕ → List ℕ → Step → List ℕ → List ℕ → Call
   pieceCall : Text → List ℕ → Taken → List ℕ → List ℕ → Call

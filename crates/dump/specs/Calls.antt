@@ -1,5 +1,5 @@
--- RULES 8 and 9: the contracts of the calls that take a dump, each as one statement: the arguments, what the lent buffers held, what is
--- returned, and what they hold then.
+-- RULES 8 and 9: the contracts of the calls that take a dump, each as one statement: the arguments, what was in the lent
+-- buffers, what is returned, and what is in them then.
 use mathlib.Core.Path.{_≡_}
 use mathlib.Core.Bool.{Bool, true}
 use mathlib.Core.List.{List}

@@ -10,12 +10,14 @@ use Rattle.frame.specs.declared.decode.Report.{Report}
 use Rattle.frame.specs.declared.decode.Decoded.{Decoded}
 use Rattle.frame.specs.declared.decode.Decoded.the-variants.{Refused, Ended}
 
+-- each ending by its own name
 abbrev pub endingOf : passes.Ending → Ending
 endingOf passes.clean = Clean
 endingOf passes.repaired = Repaired
 endingOf passes.stuck = Stuck
 endingOf passes.spent = Spent
 
+-- each value in the field of its name
 abbrev pub reportWith : passes.Ending → ℕ → ℕ → ℕ → ℕ → Report
 reportWith e p f r c = record { ending = endingOf e; passes = p; flips = f; rows = r; columns = c }
 
@@ -23,6 +25,7 @@ reportWith e p f r c = record { ending = endingOf e; passes = p; flips = f; rows
 abbrev pub reportOf : passes.Outcome → Report
 reportOf o = reportWith (o .ending) (o .passes) (o .flips) (o .rows) (o .columns)
 
+-- a refusal with its number, or what the passes gave
 abbrev pub decodedOf : rules.Decoded → Decoded
 decodedOf (rules.refused k) = Refused k
 decodedOf (rules.ended e p f r c) = Ended (reportWith e p f r c)
@@ -45,9 +48,11 @@ figuresFor Repaired p f r c = record { number = 0; passes = p; flips = f; rows =
 figuresFor Stuck p f r c = record { number = 7; passes = p; flips = f; rows = r; columns = c }
 figuresFor Spent p f r c = record { number = 8; passes = p; flips = f; rows = r; columns = c }
 
+-- those of a report
 abbrev pub reportFigures : Report → Figures
 reportFigures r = figuresFor (r .ending) (r .passes) (r .flips) (r .rows) (r .columns)
 
+-- those of an answer; a refusal has its number alone
 abbrev pub figures : Decoded → Figures
 figures (Refused k) = record { number = k; passes = 0; flips = 0; rows = 0; columns = 0 }
 figures (Ended r) = reportFigures r

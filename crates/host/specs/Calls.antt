@@ -1,5 +1,5 @@
--- The contract of `gazenohyri_decode`, as one statement about a call: its arguments, what the lent output held, the number returned,
--- and what the output holds then. Encode and read have the contracts of `frame`.
+-- The contract of `gazenohyri_decode`, as one statement about a call: its arguments, what was in the lent output, the number returned,
+-- and what is in it then. Encode and read have the contracts of `frame`.
 use mathlib.Core.Path.{_≡_}
 use mathlib.Core.List.{List}
 use Prim.Native.Nat.{ℕ}

@@ -184,8 +184,8 @@ module _ (n : ℕ) (g : Frame) (rows columns : ℕ) (hr : rows ≡ badRows n (tu
   pub frame-whole : rows + columns ≡ 0 → isFrame n g ≡ true
   frame-whole z = frame-counted n g rows columns hr hc ∙ eq-eqb (rows + columns) 0 z
 
-  pub frame-torn : rows + columns ≢ 0 → isFrame n g ≡ false
-  frame-torn z = frame-counted n g rows columns hr hc ∙ ne-eqb (rows + columns) 0 z
+  pub frame-not : rows + columns ≢ 0 → isFrame n g ≡ false
+  frame-not z = frame-counted n g rows columns hr hc ∙ ne-eqb (rows + columns) 0 z
 
 -- outcomes are known by their parts
 outcome-ext :
@@ -262,8 +262,8 @@ module _
     whole : rows + columns ≡ 0 → isFrame n after ≡ true
     whole z = ap (isFrame n) (sym t-frame) ∙ frame-whole n (frameOf n t) rows columns (m .rows-bad) (m .columns-bad) z
 
-    torn : rows + columns ≢ 0 → isFrame n after ≡ false
-    torn z = ap (isFrame n) (sym t-frame) ∙ frame-torn n (frameOf n t) rows columns (m .rows-bad) (m .columns-bad) z
+    not-frame : rows + columns ≢ 0 → isFrame n after ≡ false
+    not-frame z = ap (isFrame n) (sym t-frame) ∙ frame-not n (frameOf n t) rows columns (m .rows-bad) (m .columns-bad) z
 
     pub ended-repaired : rows + columns ≡ 0 → Ended n a f t repaired (made + 1) (flips + changes) rows columns
     ended-repaired z =
@@ -277,7 +277,7 @@ module _
         → Ended n a f t stuck (made + 1) (flips + changes) rows columns
     ended-stuck z idle =
         so (begun
-        ∙ step-stuck n f (a - (made + 1)) made flips (frameOf n s) (torn z)
+        ∙ step-stuck n f (a - (made + 1)) made flips (frameOf n s) (not-frame z)
         (ap₂ isStuck next (sym changed) ∙ idle)
         ∙ outcome-ext stuck (suc made) (made + 1) (counted n f flips (frameOf n s) after) (flips + changes)
         (badRows n after) rows (badColumns n after) columns after (frameOf n t) next flipped rows-are columns-are (sym t-frame))
@@ -287,7 +287,7 @@ module _
         → decoded n a f ≡ passesFrom n f (a - (made + 1)) (made + 1) (flips + changes) (frameOf n t)
     gone-on z moved =
         begun
-        ∙ step-on n f (a - (made + 1)) made flips (frameOf n s) (torn z)
+        ∙ step-on n f (a - (made + 1)) made flips (frameOf n s) (not-frame z)
         (ap₂ isStuck next (sym changed) ∙ moved)
         ∙ rw (flipped, ← t-frame, next)
 

@@ -1,5 +1,5 @@
--- The contract of `decode_word`, as one statement about a call: its arguments, what the lent output held, what is returned, and
--- what the output holds then.
+-- The contract of `decode_word`, as one statement about a call: its arguments, what was in the lent output, what is returned, and
+-- what is in it then.
 use mathlib.Core.Path.{_≡_}
 use mathlib.Core.List.{List}
 use Prim.Native.Nat.{ℕ}

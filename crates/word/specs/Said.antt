@@ -7,12 +7,14 @@ use Rattle.word.specs.declared.locate.Answer.the-variants.{Codeword, One
 use Rattle.word.specs.declared.decode.Said.{Said}
 use Rattle.word.specs.declared.decode.Said.the-variants.{Refused, Answered}
 
+-- each answer by its own name, the lower place first
 abbrev pub answerOf : rules.Answer → Answer
 answerOf rules.codeword = Codeword
 answerOf (rules.onePlace p) = OnePlace p
 answerOf (rules.twoPlaces p q) = TwoPlaces p q
 answerOf rules.beyond = Beyond
 
+-- a refusal with its number, or the answer
 abbrev pub saidOf : numbers.WordSaid → Said
 saidOf (numbers.wordRefused r) = Refused r
 saidOf (numbers.answered a) = Answered (answerOf a)

@@ -39,7 +39,7 @@ Idle n f p = (2 ≤ p) × (changedBits n f (p - 1) ≡ 0)
 
 -- the received frame is none of codewords, p passes are made of an allowance of a, and no pass before ended them
 pub record Running (n a : ℕ) (f : Frame) (p : ℕ) : Type 0 where
-  pub torn : isFrame n f ≡ false
+  pub not-frame : isFrame n f ≡ false
   pub some : 1 ≤ p
   pub allowed : p ≤ a
   pub before : (q : ℕ) → 1 ≤ q → q < p → (¬ WholeAfter n f q) × (¬ Idle n f q)
@@ -118,7 +118,7 @@ rule n a f e p x g h eg ex =
     let c = ap (λ y. left e (badColumns n y)) eg in
     record { ends = h; last-is = eg; flips-are = ex; rows-are = r; columns-are = c }
 
-module _ (n a : ℕ) (f : Frame) (some : 1 ≤ a) (torn : isFrame n f ≡ false) where
+module _ (n a : ℕ) (f : Frame) (some : 1 ≤ a) (not-frame : isFrame n f ≡ false) where
   -- no pass before pass p ended them
   abbrev Quiet : ℕ → Type 0
   Quiet p = (q : ℕ) → 1 ≤ q → q < p → (¬ WholeAfter n f q) × (¬ Idle n f q)
@@ -154,7 +154,7 @@ module _ (n a : ℕ) (f : Frame) (some : 1 ≤ a) (torn : isFrame n f ≡ false)
         go (isFrame n h) (isStuck (suc m) (differences n g h)) (ap (isFrame n) (sym frame-is)) refl (ap (isStuck (suc m)) changed-is) refl
       where
         running : Running n a f (suc m)
-        running = record { torn = torn; some = omega arith; allowed = omega arith; before = quiet }
+        running = record { not-frame = not-frame; some = omega arith; allowed = omega arith; before = quiet }
 
         go :
             (b c : Bool) → isFrame n (after n f (suc m)) ≡ b → isFrame n h ≡ b → isStuck (suc m) changed ≡ c
@@ -175,7 +175,7 @@ module _ (n a : ℕ) (f : Frame) (some : 1 ≤ a) (torn : isFrame n f ≡ false)
   runs zero m x g s eg ex quiet =
       let here = quiet m (omega arith) (omega arith) in
       let running : Running n a f m =
-      record { torn = torn; some = omega arith; allowed = omega arith; before = λ q s l. quiet q s (omega arith) } in
+      record { not-frame = not-frame; some = omega arith; allowed = omega arith; before = λ q s l. quiet q s (omega arith) } in
       rw (step-spent n f m x g) (rule n a f spent m x g (running, here .0, here .1, omega arith) eg ex)
   runs (suc l) m x g s eg ex quiet =
       step m x g eg ex quiet l s
@@ -206,16 +206,16 @@ module _ (n a : ℕ) (f : Frame) where
 
   ending-is : (p : ℕ) (e : Ending) → Ends n a f p e → e ≡ ending-at p
   ending-is p clean h = λ i. named (sym (h .1) i) (isFrame n (after n f p)) (isStuck p (changedBits n f (p - 1)))
-  ending-is p repaired h = λ i. named (sym (h .0 .torn) i) (sym (h .1) i) (isStuck p (changedBits n f (p - 1)))
+  ending-is p repaired h = λ i. named (sym (h .0 .not-frame) i) (sym (h .1) i) (isStuck p (changedBits n f (p - 1)))
   ending-is p stuck h =
-      λ i. named (sym (h .0 .torn) i) (sym (no-true .0 (h .1)) i) (sym (is-stuck p (changedBits n f (p - 1)) (h .2)) i)
+      λ i. named (sym (h .0 .not-frame) i) (sym (no-true .0 (h .1)) i) (sym (is-stuck p (changedBits n f (p - 1)) (h .2)) i)
   ending-is p spent h =
       let t = no-true .0 (λ t. h .2 (stuck-is p (changedBits n f (p - 1)) t)) in
-      λ i. named (sym (h .0 .torn) i) (sym (no-true .0 (h .1)) i) (sym t i)
+      λ i. named (sym (h .0 .not-frame) i) (sym (no-true .0 (h .1)) i) (sym t i)
 
   -- where p passes ended them, no more are made
   no-more : (p : ℕ) (e : Ending) → Ends n a f p e → (q : ℕ) → Running n a f q → ¬ (p < q)
-  no-more p clean h q r l = no-true .1 (r .torn) (h .1)
+  no-more p clean h q r l = no-true .1 (r .not-frame) (h .1)
   no-more p repaired h q r l = r .before p (h .0 .some) l .0 (h .1)
   no-more p stuck h q r l = r .before p (h .0 .some) l .1 (h .2)
   no-more p spent h q r l = omega (arith, r .allowed, h .3)

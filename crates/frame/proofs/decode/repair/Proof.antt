@@ -17,7 +17,7 @@ use Rattle.laws.proofs.PassStepLaws.{
   Repairing,
   repairing-none,
   repairing-more,
-  frame-torn,
+  frame-not,
   ended-clean,
   Made,
   ended-repaired,
@@ -102,7 +102,7 @@ loop-holds : tie.Need-loop-holds Inv-loop2 μ-loop2 Inv-loop μ-loop
 loop-holds c =
     let b = c .before in
     let q = b .before .before .before .before .before in
-    repairing-none _ _ _ (q .pre .0) (q .pre .1) (frame-torn _ _ _ _ (b .before .before .bad .ensures .0) (b .bad2 .ensures .0) (c .if1 .left))
+    repairing-none _ _ _ (q .pre .0) (q .pre .1) (frame-not _ _ _ _ (b .before .before .bad .ensures .0) (b .bad2 .ensures .0) (c .if1 .left))
 
 loop2-holds : tie.Need-loop2-holds Inv-loop2 μ-loop2 Inv-loop μ-loop
 loop2-holds c = passing-none _ _ _ (c .loop .inv .ready)
