@@ -11,10 +11,10 @@ use lib.ListN.{length, length-append}
 use borrow.Author.Tests.{ne-eqb, ltb-false}
 use Rattle.algebra.specs.Sums.{All}
 use Rattle.rules.specs.Numbers.{pick}
-use Rattle.rules.specs.Text.{Text, lf}
-use Rattle.rules.specs.Dump.{longestLine, report, reportCut}
-use Rattle.rules.proofs.Promises.Lines.{NoLF, joinedLines, lines-promise}
-use Rattle.rules.proofs.Promises.Reports.{reports}
+use Rattle.textrules.specs.Text.{Text, lf}
+use Rattle.textrules.specs.Dump.{longestLine, report, reportCut}
+use Rattle.textrules.proofs.Promises.Lines.{NoLF, joinedLines, lines-promise}
+use Rattle.textrules.proofs.Promises.Reports.{reports}
 use Rattle.dump.specs.declared.state.State.{State}
 use Rattle.dump.specs.Stream.{atStart, mostLines, lineSays, held, following, isBadHeader, nextLine, longer, stateAfter, textAfter, textAtEnd, Kept, keeping, keptAfter, afterAll}
 use Rattle.dump.proofs.StateLaws.{after-rejected, after-lf, end-rejected, end-none}

@@ -9,7 +9,7 @@ use lib.Dec.{leb}
 use lib.ListN.{length, take, drop, length-drop}
 use lib.Seq.{take-add, take-all}
 use Rattle.rules.specs.Numbers.{pick}
-use Rattle.rules.specs.Text.{Text}
+use Rattle.textrules.specs.Text.{Text}
 use Rattle.dump.specs.declared.state.State.{State}
 use Rattle.dump.specs.declared.state.Taken.{Taken}
 use Rattle.dump.specs.ReportText.{lineRoom}

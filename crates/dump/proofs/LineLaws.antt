@@ -9,8 +9,8 @@ use lib.ListN.{length, take, drop, length-drop}
 use lib.Seq.{take-all}
 use borrow.Author.Tests.{not-true, not-false}
 use Rattle.rules.specs.Numbers.{decodeSaid}
-use Rattle.rules.specs.Text.{Text, isHex, hexBytes}
-use Rattle.rules.specs.Dump.{Line, badLine, aRecord, longestLine, questioned, recordText, lineText, lineOf}
+use Rattle.textrules.specs.Text.{Text, isHex, hexBytes}
+use Rattle.textrules.specs.Dump.{Line, badLine, aRecord, longestLine, questioned, recordText, lineText, lineOf}
 use Rattle.frame.specs.declared.decode.Decoded.{Decoded}
 use Rattle.frame.specs.Said.{decodedOf}
 use Rattle.text.specs.declared.record.Head.{Head}

@@ -9,8 +9,8 @@ use Prim.Native.Nat.{ℕ, suc, _+_, _^_, _≤_, _<_}
 use native.Mathlib.Omega.{arith}
 use lib.ListN.{length, take, drop}
 use lib.Seq.{take-at}
-use Rattle.rules.specs.Text.{Text}
-use Rattle.rules.specs.Dump.{longestLine, report, reportCut}
+use Rattle.textrules.specs.Text.{Text}
+use Rattle.textrules.specs.Dump.{longestLine, report, reportCut}
 use Rattle.dump.specs.declared.state.State.{State}
 use Rattle.dump.specs.declared.state.Step.{Step}
 use Rattle.dump.specs.declared.state.Taken.{Taken}

@@ -11,8 +11,8 @@ use Rattle.rules.specs.Passes as passes
 use Rattle.rules.specs.Passes.{decoded}
 use Rattle.rules.specs.Numbers as rules
 use Rattle.rules.specs.Numbers.{refused, ended, pick, first, outside, notLong, notAllowed, frameBytes, told, decodeRefusal, decodeSaid}
-use Rattle.rules.specs.Text.{Text}
-use Rattle.rules.specs.Dump.{recordText}
+use Rattle.textrules.specs.Text.{Text}
+use Rattle.textrules.specs.Dump.{recordText}
 use Rattle.frame.specs.declared.decode.Ending.{Ending}
 use Rattle.frame.specs.declared.decode.Report.{Report}
 use Rattle.frame.specs.declared.decode.Decoded.{Decoded}

@@ -12,10 +12,10 @@ use lib.ListN.{length, take, set, length-append, length-set}
 use lib.Seq.{take-suc-set}
 use borrow.Author.Tests.{eq-eqb, ne-eqb, lt-ltb, le-leb, lt-leb}
 use Rattle.rules.specs.Numbers.{pick}
-use Rattle.rules.specs.Text.{Text, lf, same, lines}
-use Rattle.rules.specs.Dump.{header, longestLine, goodHeader, badHeader, lineText, lineOf, reportFrom, underHeader, report}
-use Rattle.rules.proofs.Laws.TextLaws.{all-append}
-use Rattle.rules.proofs.Promises.Lines.{NoLF, lines-cut, lines-open}
+use Rattle.textrules.specs.Text.{Text, lf, same, lines}
+use Rattle.textrules.specs.Dump.{header, longestLine, goodHeader, badHeader, lineText, lineOf, reportFrom, underHeader, report}
+use Rattle.textrules.proofs.Laws.TextLaws.{all-append}
+use Rattle.textrules.proofs.Promises.Lines.{NoLF, lines-cut, lines-open}
 use Rattle.dump.specs.declared.state.State.{State}
 use Rattle.dump.specs.Stream.{atStart, held, lineSays, mostLines, nextLine, longer, stateAfter, lineAfter, textAfter, textAtEnd}
 use Rattle.dump.proofs.StateLaws.{held-kept, held-over, too-long-bad, too-long-header, after-rejected, after-lf, after-other, end-rejected, end-none, end-line, between-not}

@@ -13,10 +13,10 @@ use lib.ListN.{length, take, set, replicate, length-append, length-replicate}
 use lib.Seq.{set-out, take-all}
 use borrow.Author.Tests.{eq-eqb, ne-eqb, lt-ltb, le-ltb, le-leb, lt-leb}
 use Rattle.rules.specs.Numbers.{pick}
-use Rattle.rules.specs.Text.{Text, lf, same}
-use Rattle.rules.specs.Dump.{header, longestLine, Line, badLine, aRecord, questioned, goodHeader, badHeader, lineText, lineOf}
-use Rattle.rules.proofs.Promises.Records.{WrittenAs, records}
-use Rattle.rules.proofs.Promises.Reports.{same-is}
+use Rattle.textrules.specs.Text.{Text, lf, same}
+use Rattle.textrules.specs.Dump.{header, longestLine, Line, badLine, aRecord, questioned, goodHeader, badHeader, lineText, lineOf}
+use Rattle.textrules.proofs.Promises.Records.{WrittenAs, records}
+use Rattle.textrules.proofs.Promises.Reports.{same-is}
 use Rattle.dump.specs.declared.state.State.{State}
 use Rattle.text.specs.Laid.{Lays}
 use Rattle.text.proofs.LaidLaws.{laid-none}

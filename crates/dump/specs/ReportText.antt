@@ -1,8 +1,8 @@
 -- RULES 9: a record's line of the report, from the code's own answer.
 use mathlib.Core.List.{_∷_, []}
 use Prim.Native.Nat.{ℕ, _+_, _*_}
-use Rattle.rules.specs.Text.{Text, ascii, decimal}
-use Rattle.rules.specs.Dump.{reportLine}
+use Rattle.textrules.specs.Text.{Text, ascii, decimal}
+use Rattle.textrules.specs.Dump.{reportLine}
 use Rattle.frame.specs.declared.decode.Ending.{Ending}
 use Rattle.frame.specs.declared.decode.Ending.the-variants.{Clean, Repaired, Stuck, Spent}
 use Rattle.frame.specs.declared.decode.Report.{Report}

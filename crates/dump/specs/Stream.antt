@@ -5,8 +5,8 @@ use Prim.Native.Nat.{ℕ, suc, _+_, _-_}
 use lib.Dec.{eqb, leb, ltb}
 use lib.ListN.{length, take, set, replicate}
 use Rattle.rules.specs.Numbers.{pick}
-use Rattle.rules.specs.Text.{Text, lf, same}
-use Rattle.rules.specs.Dump.{header, longestLine, goodHeader, badHeader, lineText, lineOf}
+use Rattle.textrules.specs.Text.{Text, lf, same}
+use Rattle.textrules.specs.Dump.{header, longestLine, goodHeader, badHeader, lineText, lineOf}
 use Rattle.dump.specs.declared.state.State.{State}
 use Rattle.dump.specs.ReportText.{lineRoom}
 

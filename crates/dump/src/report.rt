@@ -9,7 +9,7 @@ use text::write::put_word;
 ghost use mathlib.Core.Path.{_≡_};
 ghost use Prim.Native.Nat.{_+_, _≤_};
 ghost use lib.ListN.{length};
-ghost use Rattle.rules.specs.Dump.{questioned};
+ghost use Rattle.textrules.specs.Dump.{questioned};
 ghost use Rattle.text.specs.Laid.{Lays};
 ghost use Rattle.dump.specs.ReportText.{lineRoom, countsRoom, mostLetters, countsText, wordAndCounts, mendedCounts, badCounts, refusedCounts, reportText, decodedText};
 

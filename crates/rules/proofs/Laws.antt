@@ -20,7 +20,5 @@ pub mod TwoPasses
 -- Numbers
 pub mod OneOfLaws
 pub mod NumberLaws
--- Texts
-pub mod TextLaws
 -- Every definition opened at once
 pub mod Computing

@@ -18,8 +18,3 @@ pub mod Repair
 pub mod Limit
 -- The bench items
 pub mod Bench
--- The dump and its report
-pub mod Records
-pub mod LongestLine
-pub mod Lines
-pub mod Reports

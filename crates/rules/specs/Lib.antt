@@ -6,6 +6,4 @@ pub mod Bits
 pub mod Passes
 pub mod Numbers
 pub mod Packed
-pub mod Text
-pub mod Dump
 pub mod Damage

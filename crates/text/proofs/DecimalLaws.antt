@@ -5,8 +5,8 @@ use mathlib.Core.List.{List, [], _∷_}
 use Prim.Native.Nat.{ℕ, _+_, _/_, _%_, _≤_, _<_}
 use native.Mathlib.Omega.{arith}
 use lib.ListN.{length, set, length-append}
-use Rattle.rules.specs.Text.{decimal}
-use Rattle.rules.proofs.Laws.TextLaws.{decimal-small, decimal-more}
+use Rattle.textrules.specs.Text.{decimal}
+use Rattle.textrules.proofs.Laws.TextLaws.{decimal-small, decimal-more}
 use Rattle.text.specs.Laid.{laid, Lays}
 use Rattle.text.proofs.LaidLaws.{laid-one, laid-more}
 

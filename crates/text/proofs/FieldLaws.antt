@@ -12,7 +12,7 @@ use lib.Seq.{take-length, drop-drop}
 use borrow.Author.Tests.{ltb-true, ltb-false, lt-ltb, le-ltb}
 use Rattle.bytes.specs.Bytes.{indexOf, indexAfter, slice}
 use Rattle.rules.specs.Numbers.{pick}
-use Rattle.rules.specs.Text.{Text, tabulator, onto, parted, fields, isDecimal, decimalValue}
+use Rattle.textrules.specs.Text.{Text, tabulator, onto, parted, fields, isDecimal, decimalValue}
 use Rattle.rules.proofs.Laws.OneOfLaws.{and-both}
 use Rattle.text.specs.Read.{decimalOf, closedNumber, badField, fieldOf, badHead, headOf}
 use Rattle.text.specs.declared.number.Decimal.{Decimal}

@@ -9,8 +9,8 @@ use native.Mathlib.Omega.{arith}
 use lib.ListN.{length, take, drop, getD, set, length-append, length-drop, length-set, take-append-drop}
 use lib.Seq.{length-take-le, take-all, take-at, drop-append-add, drop-drop, set-split, take-suc}
 use lib.Dec.{leb→le}
-use Rattle.rules.specs.Text.{Text, decimal}
-use Rattle.rules.proofs.Laws.TextLaws.{decimal-short}
+use Rattle.textrules.specs.Text.{Text, decimal}
+use Rattle.textrules.proofs.Laws.TextLaws.{decimal-short}
 use Rattle.text.specs.Laid.{laid, Lays}
 
 pub laid-none : (s : List ℕ) (at : ℕ) → laid s at [] ≡ s

@@ -14,7 +14,7 @@ use lib.Seq.{drop-cons, take-at, length-take-le}
 use borrow.Author.Tests.{leb-true, leb-false, le-leb, lt-leb, eqb-false, eq-eqb, ne-eqb}
 use Rattle.algebra.proofs.TableLaws.{tab-length, tab-at}
 use Rattle.rules.specs.Numbers.{pick}
-use Rattle.rules.specs.Text.{Text, every, isDigit, digitValue, isDecimal, valueFrom, decimalValue, isHexDigit, hexValue, letterOr, isHex, hexBytes}
+use Rattle.textrules.specs.Text.{Text, every, isDigit, digitValue, isDecimal, valueFrom, decimalValue, isHexDigit, hexValue, letterOr, isHex, hexBytes}
 use Rattle.rules.proofs.Laws.OneOfLaws.{and-both}
 use Rattle.text.specs.Laid.{laid}
 use Rattle.text.specs.Read.{decimalOf, digitsOf}

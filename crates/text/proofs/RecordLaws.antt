@@ -11,10 +11,10 @@ use lib.ListN.{length, drop, getD}
 use borrow.Author.Tests.{ltb-true, ltb-false, le-leb, eqb-true}
 use Rattle.bytes.specs.Bytes.{indexOf}
 use Rattle.rules.specs.Numbers.{pick}
-use Rattle.rules.specs.Text.{Text, tabulator, parted, fields, every, isDecimal, decimalValue, isHexDigit, isHex, hexBytes}
-use Rattle.rules.specs.Dump.{longestLine, Line, badLine, aRecord, lineOf}
+use Rattle.textrules.specs.Text.{Text, tabulator, parted, fields, every, isDecimal, decimalValue, isHexDigit, isHex, hexBytes}
+use Rattle.textrules.specs.Dump.{longestLine, Line, badLine, aRecord, lineOf}
 use Rattle.rules.proofs.Laws.OneOfLaws.{and-both}
-use Rattle.rules.proofs.Laws.TextLaws.{all-so, every-all, fields-one}
+use Rattle.textrules.proofs.Laws.TextLaws.{all-so, every-all, fields-one}
 use Rattle.text.specs.Read.{fieldOf, badHead, headOf}
 use Rattle.text.specs.declared.record.Field.{Field}
 use Rattle.text.specs.declared.record.Head.{Head}

@@ -11,7 +11,7 @@ use lib.Dec.{eqb}
 use lib.ListN.{length, drop, getD, drop-of-length-le}
 use lib.Seq.{drop-cons}
 use borrow.Author.Tests.{eq-eqb, ne-eqb}
-use Rattle.rules.specs.Text.{Text, same}
+use Rattle.textrules.specs.Text.{Text, same}
 
 pub same-length-not : (s t : Text) → length s ≢ length t → false ≡ same s t
 unfolding same

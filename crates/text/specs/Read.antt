@@ -6,7 +6,7 @@ use lib.Dec.{ltb}
 use lib.ListN.{length, take, drop}
 use Rattle.bytes.specs.Bytes.{indexOf}
 use Rattle.rules.specs.Numbers.{pick}
-use Rattle.rules.specs.Text.{Text, tabulator, isDigit, digitValue, isDecimal, decimalValue}
+use Rattle.textrules.specs.Text.{Text, tabulator, isDigit, digitValue, isDecimal, decimalValue}
 use Rattle.text.specs.declared.number.Decimal.{Decimal}
 use Rattle.text.specs.declared.number.Decimal.the-variants.{Value, Bad}
 use Rattle.text.specs.declared.record.Field.{Field}

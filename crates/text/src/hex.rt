@@ -3,7 +3,7 @@ ghost use mathlib.Core.Path.{_≡_};
 ghost use mathlib.Core.Bool.{true};
 ghost use Prim.Native.Nat.{_*_, _/_, _≤_, _<_};
 ghost use lib.ListN.{length};
-ghost use Rattle.rules.specs.Text.{isHexDigit, hexValue, isHex, hexBytes};
+ghost use Rattle.textrules.specs.Text.{isHexDigit, hexValue, isHex, hexBytes};
 ghost use Rattle.text.specs.Laid.{laid};
 
 fn is_hex_digit(x: u8) -> bool

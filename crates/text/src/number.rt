@@ -2,7 +2,7 @@
 ghost use mathlib.Core.Path.{_≡_};
 ghost use Prim.Native.Nat.{_≤_};
 ghost use lib.ListN.{length};
-ghost use Rattle.rules.specs.Text.{mostDigits};
+ghost use Rattle.textrules.specs.Text.{mostDigits};
 ghost use Rattle.text.specs.Read.{decimalOf, digitsOf};
 
 // The digits that a number has room for.

@@ -2,7 +2,7 @@
 ghost use mathlib.Core.List.{_∷_};
 ghost use Prim.Native.Nat.{_+_, _≤_};
 ghost use lib.ListN.{length};
-ghost use Rattle.rules.specs.Text.{decimal, tabulator};
+ghost use Rattle.textrules.specs.Text.{decimal, tabulator};
 ghost use Rattle.text.specs.Laid.{Lays};
 
 // Puts the text at `at` and returns where it ends.

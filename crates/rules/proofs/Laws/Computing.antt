@@ -12,9 +12,7 @@ use Rattle.rules.specs.Bits.{bitAt, wordOf, frameOf, packed, wordBytes, 
 use Rattle.rules.specs.Passes.{passRows, passColumns, pass, differences, passesFrom, decoded}
 use Rattle.rules.specs.Numbers.{encodeNumber, encodeOutput, decodeRefusal, decodeSaid, decodeOutput, wordRefusal, wordSaid, wordOutput}
 use Rattle.rules.specs.Damage.{spoilt}
-use Rattle.rules.specs.Text.{same, lines, wholeLines, fields, every, isDecimal, valueFrom, digits, isHex, hexBytes}
-use Rattle.rules.specs.Dump.{lineOf, reportFrom, report, reportCut}
 
 unfoldable pub computing : Unit {0}
-unfolding _⊕_ tabFrom tab ones sum bit _⊻_ xor shift register descend binary systematic poly g remainder checks isCodeword encodeWord values exactly within nearest asAnswer answer isIn changed mend row transposed badRows badColumns isFrame corner rowsFirst bitAt wordOf frameOf packed wordBytes bytesOf spareOnes passRows passColumns pass differences passesFrom decoded encodeNumber encodeOutput decodeRefusal decodeSaid decodeOutput wordRefusal wordSaid wordOutput spoilt lines fields every isDecimal valueFrom digits isHex hexBytes wholeLines same lineOf reportFrom report reportCut
+unfolding _⊕_ tabFrom tab ones sum bit _⊻_ xor shift register descend binary systematic poly g remainder checks isCodeword encodeWord values exactly within nearest asAnswer answer isIn changed mend row transposed badRows badColumns isFrame corner rowsFirst bitAt wordOf frameOf packed wordBytes bytesOf spareOnes passRows passColumns pass differences passesFrom decoded encodeNumber encodeOutput decodeRefusal decodeSaid decodeOutput wordRefusal wordSaid wordOutput spoilt
 computing = tt

@@ -1,7 +1,7 @@
 -- `dump::report::put_decoded` meets its contract.
 -- Assumes nothing.
 use mathlib.Core.Path.{refl, ap}
-use Rattle.rules.specs.Text.{ascii}
+use Rattle.textrules.specs.Text.{ascii}
 use Rattle.frame.specs.declared.decode.Decoded.the-variants.{Refused, Ended}
 use Rattle.dump.specs.ReportText.{wordAndCounts}
 use Rattle.dump.proofs.ReportTextLaws.{told-as}

@@ -1,7 +1,7 @@
 -- `dump::report::put_report` meets its contract: each ending has its word and its counts.
 -- Assumes nothing.
 use mathlib.Core.Path.{refl}
-use Rattle.rules.specs.Text.{ascii}
+use Rattle.textrules.specs.Text.{ascii}
 use Rattle.frame.specs.declared.decode.Ending.the-variants.{Clean, Repaired, Stuck, Spent}
 use Rattle.dump.proofs.ReportTextLaws.{told-here}
 use borrow.Author.Needs.{needs}

@@ -1,7 +1,7 @@
 -- `dump::state::put_header` meets its contract.
 -- Assumes nothing.
 use borrow.Author.Needs.{needs}
-use Rattle.rules.specs.Dump.{goodHeader, badHeader}
+use Rattle.textrules.specs.Dump.{goodHeader, badHeader}
 use Rattle.dump.proofs.StateLaws.{lays-as, picked}
 use Rattle.dump.proofs.state.put_header.Statement.{statement}
 use Rattle.dump.proofs.state.put_header.Tie as tie

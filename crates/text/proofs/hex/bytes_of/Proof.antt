@@ -3,7 +3,7 @@
 use mathlib.Core.Path.{refl}
 use Prim.Native.Nat.{_-_}
 use borrow.Author.Needs.{needs}
-use Rattle.rules.specs.Text.{hexBytes}
+use Rattle.textrules.specs.Text.{hexBytes}
 use Rattle.text.proofs.LaidLaws.{Laying, laying-all}
 use Rattle.text.proofs.ReadLaws.{hex-laying-none, hex-laying-next, hex-at}
 use Rattle.text.proofs.hex.bytes_of.Statement.{statement}

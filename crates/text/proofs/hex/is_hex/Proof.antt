@@ -4,7 +4,7 @@ use mathlib.Core.Path.{refl, sym, _∙_}
 use Prim.Native.Nat.{_-_}
 use borrow.Author.Tests.{not-true, not-false}
 use borrow.Author.Needs.{needs}
-use Rattle.rules.specs.Text.{isHexDigit}
+use Rattle.textrules.specs.Text.{isHexDigit}
 use Rattle.text.proofs.ReadLaws.{Testing, testing-none, testing-next, testing-fails, testing-all, hex-odd, hex-even}
 use Rattle.text.proofs.hex.is_hex.Statement.{statement}
 use Rattle.text.proofs.hex.is_hex.Tie as tie

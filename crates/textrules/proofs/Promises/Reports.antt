@@ -13,15 +13,15 @@ use borrow.Author.Tests.{eqb-true, eqb-false, eq-eqb, not-true}
 use Rattle.algebra.specs.Sums.{All}
 use Rattle.algebra.specs.Tables.{tab}
 use Rattle.algebra.proofs.TableLaws.{tab-zero, tab-suc, tab-ext}
 use Rattle.rules.specs.Bits.{frameOf}
 use Rattle.rules.specs.Passes.{clean, repaired, stuck, spent, decoded}
 use Rattle.rules.specs.Numbers.{pick, outside, notLong, notAllowed, frameBytes, Decoded, refused, ended, told, decodeRefusal, decodeSaid}
-use Rattle.rules.specs.Text.{Text, ascii, same, lines, every, digits, decimal}
-use Rattle.rules.specs.Dump.{header, Line, badLine, aRecord, lineOf, afterTabs, reportLine, goodHeader, badHeader, endingText, reportedCounts, recordText, lineText, reportFrom, underHeader, report, reportSome, reportCut}
+use Rattle.textrules.specs.Text.{Text, ascii, same, lines, every, digits, decimal}
+use Rattle.textrules.specs.Dump.{header, Line, badLine, aRecord, lineOf, afterTabs, reportLine, goodHeader, badHeader, endingText, reportedCounts, recordText, lineText, reportFrom, underHeader, report, reportSome, reportCut}
 use Rattle.rules.proofs.Laws.OneOfLaws.{and-both}
-use Rattle.rules.proofs.Laws.TextLaws.{all-append, all-so, every-all, Digit, decimal-digits, tabbed}
-use Rattle.rules.proofs.Laws.Computing.{computing}
-use Rattle.rules.proofs.Promises.Lines.{NoLF, joinedLines, lines-promise}
+use Rattle.textrules.proofs.Laws.TextLaws.{all-append, all-so, every-all, Digit, decimal-digits, tabbed}
+use Rattle.textrules.proofs.Laws.Computing.{computing}
+use Rattle.textrules.proofs.Promises.Lines.{NoLF, joinedLines, lines-promise}
 
 -- ---- The statement
 

@@ -8,7 +8,7 @@ use Prim.Native.Nat.{ℕ}
 use native.Mathlib.Decide.{ℕ-discrete}
 use borrow.Author.Tests.{ne-eqb}
 use Rattle.algebra.specs.Sums.{All, AllN}
-use Rattle.rules.specs.Text.{Text, ascii, parted, lines, ontoWhole, wholeLines}
+use Rattle.textrules.specs.Text.{Text, ascii, parted, lines, ontoWhole, wholeLines}
 
 -- ---- The statement
 

@@ -4,10 +4,10 @@ use mathlib.Core.List.{List, [], _∷_, _++_, map}
 use Prim.Native.Nat.{ℕ, suc, _+_, _*_}
 use lib.Dec.{eqb, leb}
 use lib.ListN.{length, getD}
 use Rattle.rules.specs.Words.{longest}
 use Rattle.rules.specs.Passes.{clean, repaired, stuck, spent}
 use Rattle.rules.specs.Numbers.{pick, frameBytes, Decoded, refused, ended, Figures, figuresOf, decodeSaid}
-use Rattle.rules.specs.Text.{Text, ascii, lf, tabulator, same, lines, wholeLines, fields, mostDigits, isDecimal, decimalValue, decimal, isHex, hexBytes}
+use Rattle.textrules.specs.Text.{Text, ascii, lf, tabulator, same, lines, wholeLines, fields, mostDigits, isDecimal, decimalValue, decimal, isHex, hexBytes}
 
 -- ---- The dump
 

@@ -14,8 +14,8 @@ use borrow.Author.Tests.{lt-ltb, le-ltb, ne-eqb, eqb-true}
 use Rattle.algebra.specs.Sums.{AllN}
 use Rattle.algebra.specs.Tables.{tab, tabFrom}
 use Rattle.algebra.proofs.TableLaws.{tab-suc, tab-ext}
-use Rattle.rules.specs.Text.{Text, tabulator, parted, fields, every, digitValue, valueFrom, decimalValue, digits, decimal, hexValue, hexBytes}
+use Rattle.textrules.specs.Text.{Text, tabulator, parted, fields, every, digitValue, valueFrom, decimalValue, digits, decimal, hexValue, hexBytes}
 use Rattle.rules.proofs.Laws.OneOfLaws.{and-both}
 
 -- ---- every entry of a text
 

@@ -14,12 +14,12 @@ use borrow.Author.Tests.{eqb-true, eqb-false, eq-eqb, ne-eqb, leb-true, le-leb, 
 use Rattle.algebra.specs.Sums.{AllN}
 use Rattle.algebra.specs.Tables.{tab, tabFrom, ones}
 use Rattle.algebra.proofs.TableLaws.{count-zero}
 use Rattle.rules.specs.Numbers.{pick}
-use Rattle.rules.specs.Text.{Text, ascii, tabulator, fields, every, isDigit, isDecimal, decimalValue, valueFrom, decimal, isHexDigit, hexValue, isHex, hexBytes}
-use Rattle.rules.specs.Dump.{longestLine, Line, badLine, aRecord, fieldAt, isRecord, lineOf}
+use Rattle.textrules.specs.Text.{Text, ascii, tabulator, fields, every, isDigit, isDecimal, decimalValue, valueFrom, decimal, isHexDigit, hexValue, isHex, hexBytes}
+use Rattle.textrules.specs.Dump.{longestLine, Line, badLine, aRecord, fieldAt, isRecord, lineOf}
 use Rattle.rules.proofs.Laws.OneOfLaws.{and-both}
-use Rattle.rules.proofs.Laws.Computing.{computing}
-use Rattle.rules.proofs.Laws.TextLaws.{all-so, every-all, all-every, Digit, decimal-small, decimal-digits, decimal-first, decimal-some, decimal-short, decimal-long, decimal-value, value-decimal, fields-cut, fields-one, tabbed, fields-tabbed, hexBytes-none, hexBytes-two}
+use Rattle.textrules.proofs.Laws.Computing.{computing}
+use Rattle.textrules.proofs.Laws.TextLaws.{all-so, every-all, all-every, Digit, decimal-small, decimal-digits, decimal-first, decimal-some, decimal-short, decimal-long, decimal-value, value-decimal, fields-cut, fields-one, tabbed, fields-tabbed, hexBytes-none, hexBytes-two}
 
 -- ---- The statement
 

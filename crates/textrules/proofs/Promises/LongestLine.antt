@@ -6,11 +6,11 @@ use Prim.Native.Nat.{ℕ, suc, _+_, _*_, _^_, _≤_, _<_}
 use native.Mathlib.Omega.{arith}
 use lib.Dec.{leb→le}
 use lib.ListN.{length, length-append}
 use Rattle.rules.specs.Numbers.{frameBytes}
-use Rattle.rules.specs.Text.{Text, ascii, decimal}
-use Rattle.rules.specs.Dump.{longestLine, Line, badLine, aRecord, lineOf}
-use Rattle.rules.proofs.Laws.TextLaws.{decimal-short, decimal-long}
-use Rattle.rules.proofs.Promises.Records.{hexText, recordLine, WrittenAs, records}
+use Rattle.textrules.specs.Text.{Text, ascii, decimal}
+use Rattle.textrules.specs.Dump.{longestLine, Line, badLine, aRecord, lineOf}
+use Rattle.textrules.proofs.Laws.TextLaws.{decimal-short, decimal-long}
+use Rattle.textrules.proofs.Promises.Records.{hexText, recordLine, WrittenAs, records}
 
 -- ---- The statement
 

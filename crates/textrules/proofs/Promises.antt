@@ -1,0 +1,5 @@
+-- The dump and its report
+pub mod Records
+pub mod LongestLine
+pub mod Lines
+pub mod Reports

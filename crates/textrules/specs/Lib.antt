@@ -1,0 +1,3 @@
+-- The rules of docs/RULES.md about texts as definitions, in its order.
+pub mod Text
+pub mod Dump
