@@ -1,11 +1,11 @@
 -- A shift register's step is additive and loses nothing; steps made many times; a register carried by an additive map.
 -- Assumes nothing.
 use mathlib.Core.Path.{_≡_, refl, sym, ap, ap₂, _∙_}
-use Prim.Native.Nat.{ℕ, zero, suc, _+_, _*_, _/_, _%_, _^_, _<_}
-use native.Mathlib.Nat.{mod-lt, zero-mul, one-mul, zero-add, suc-add, add-comm, mul-zero, mul-suc, pow-suc}
+use Prim.Native.Nat.{ℕ, zero, suc, _+_, _*_, _/_, _%_, _^_, _≤_, _<_}
+use native.Mathlib.Nat.{mod-lt, zero-mul, one-mul, zero-add, suc-add, add-comm, mul-zero, mul-suc, pow-suc, mod-eq-of-lt, div-eq-of-lt}
 use native.Mathlib.Omega.{arith}
 use lib.Arith.{mod-mul}
-use lib.Pow.{pow-pos, split, shr-lt}
+use lib.Pow.{pow-pos, pow-lt, split, shr-lt}
 use lib.Dec.{T, lit<}
 use Rattle.algebra.specs.Xor.{_⊕_}
 use Rattle.algebra.specs.Register.{iter, turn}
@@ -112,6 +112,16 @@ one-lt k = omega (arith, pow-suc 2 k, pow-pos k)
 
 pub iter-zero : (k c n : ℕ) → iter n (turn k c) 0 ≡ 0
 iter-zero k c n = additive-zero (iter n (turn k c)) (additive-iter (turn k c) (turn-additive k c) n)
+
+-- as long as no digit falls out, a step doubles
+pub iter-doubles : (k c m : ℕ) → m ≤ k → iter m (turn k c) 1 ≡ 2 ^ m
+unfolding iter turn
+iter-doubles k c zero h = refl
+iter-doubles k c (suc m) h =
+    let top : 2 ^ m < 2 ^ k = pow-lt {j = k} h in
+    let e₁ : 2 * 2 ^ m % 2 ^ suc k ≡ 2 * 2 ^ m = mod-eq-of-lt (omega (arith, pow-suc 2 k)) in
+    let e₂ : 2 ^ m / 2 ^ k ≡ 0 = div-eq-of-lt top in
+    ap (turn k c) (iter-doubles k c m (omega arith)) ∙ rw (e₁, e₂, zero-mul, ⊕-zero) (omega (arith, pow-suc 2 m))
 
 -- no number of steps leads to 0, but from 0
 pub iter-nonzero :

@@ -8,6 +8,7 @@ use native.Mathlib.Omega.{arith}
 use lib.ListN.{length, take, drop, length-drop}
 use lib.Seq.{take-all}
 use borrow.Author.Tests.{not-true, not-false}
+use Rattle.rules.specs.Codes.{smallCode}
 use Rattle.rules.specs.Numbers.{decodeSaid}
 use Rattle.textrules.specs.Text.{Text, isHex, hexBytes}
 use Rattle.textrules.specs.Dump.{Line, badLine, aRecord, longestLine, questioned, recordText, lineText, lineOf}
@@ -54,7 +55,7 @@ module _ (s : Text) (h : Head) (e : h ≡ headOf s) (k : ℕ) (out : List ℕ) (
     -- what decoding the frame said is what the line reports
     pub record-reported :
         length s ≤ longestLine → not x ≡ false → (a : Decoded)
-        → a ≡ decodedOf (decodeSaid (h .n) (h .allowance) (hexBytes (digitsAt s (h .frame))) (hexBytes (digitsAt s (h .frame))))
+        → a ≡ decodedOf (decodeSaid smallCode (h .n) (h .allowance) (hexBytes (digitsAt s (h .frame))) (hexBytes (digitsAt s (h .frame))))
         → Lays out at (decodedText (h .number) a) r exit → Lays out at (lineText k (lineOf s)) r exit
     record-reported short b a w l =
         as-line
@@ -63,7 +64,7 @@ module _ (s : Text) (h : Head) (e : h ≡ headOf s) (k : ℕ) (out : List ℕ) (
         (subst (λ (t : Text). Lays out at t r exit)
         (ap (decodedText (h .number)) w
         ∙ decoded-said (h .number)
-        (decodeSaid (h .n) (h .allowance) (hexBytes (digitsAt s (h .frame))) (hexBytes (digitsAt s (h .frame))))
-        ∙ ap (λ (d : Text). recordText (h .number) (decodeSaid (h .n) (h .allowance) (hexBytes d) (hexBytes d))) (digits-rest s (h .frame))
-        ∙ ap (λ (y : Head). recordText (y .number) (decodeSaid (y .n) (y .allowance) (hexBytes (drop (y .frame) s)) (hexBytes (drop (y .frame) s)))) e)
+        (decodeSaid smallCode (h .n) (h .allowance) (hexBytes (digitsAt s (h .frame))) (hexBytes (digitsAt s (h .frame))))
+        ∙ ap (λ (d : Text). recordText (h .number) (decodeSaid smallCode (h .n) (h .allowance) (hexBytes d) (hexBytes d))) (digits-rest s (h .frame))
+        ∙ ap (λ (y : Head). recordText (y .number) (decodeSaid smallCode (y .n) (y .allowance) (hexBytes (drop (y .frame) s)) (hexBytes (drop (y .frame) s)))) e)
         l)

@@ -6,6 +6,7 @@ use mathlib.Core.List.{List, [], _∷_}
 use Prim.Native.Nat.{ℕ}
 use lib.Dec.{eqb}
 use lib.ListN.{length}
+use Rattle.rules.specs.Codes.{smallCode}
 use Rattle.rules.specs.Bits.{frameOf}
 use Rattle.rules.specs.Passes as passes
 use Rattle.rules.specs.Passes.{decoded}
@@ -47,23 +48,23 @@ decoded-said number (ended passes.spent p f r c) = refl
 -- the output matters to what is said by its length alone
 pub said-of-length :
     (n allowance : ℕ) (input output output₂ : List ℕ) → length output ≡ length output₂
-    → decodeSaid n allowance input output ≡ decodeSaid n allowance input output₂
+    → decodeSaid smallCode n allowance input output ≡ decodeSaid smallCode n allowance input output₂
 unfolding decodeSaid decodeRefusal
 said-of-length n allowance input output output₂ h =
     ap
     (λ (l : ℕ).
     let r : ℕ =
     first
-    ((outside n, 1)
+    ((outside smallCode n, 1)
     ∷ (notLong input (frameBytes n), 2)
     ∷ (not (eqb l (frameBytes n)), 3)
     ∷ (notAllowed allowance, 4)
     ∷ []) in
-    pick (eqb r 0) (told (decoded n allowance (frameOf n input))) (refused r))
+    pick (eqb r 0) (told (decoded smallCode n allowance (frameOf n input))) (refused r))
     h
 
 pub said-of :
-    (n allowance : ℕ) (received mended frame : List ℕ) (r : Decoded) → r ≡ decodedOf (decodeSaid n allowance received mended)
-    → received ≡ frame → length mended ≡ length frame → r ≡ decodedOf (decodeSaid n allowance frame frame)
+    (n allowance : ℕ) (received mended frame : List ℕ) (r : Decoded) → r ≡ decodedOf (decodeSaid smallCode n allowance received mended)
+    → received ≡ frame → length mended ≡ length frame → r ≡ decodedOf (decodeSaid smallCode n allowance frame frame)
 said-of n allowance received mended frame r e p q =
-    e ∙ ap decodedOf (ap (λ (x : List ℕ). decodeSaid n allowance x mended) p ∙ said-of-length n allowance frame mended frame q)
+    e ∙ ap decodedOf (ap (λ (x : List ℕ). decodeSaid smallCode n allowance x mended) p ∙ said-of-length n allowance frame mended frame q)

@@ -11,6 +11,7 @@ ghost use mathlib.Core.Path.{_≡_};
 ghost use mathlib.Core.Bool.{true};
 ghost use Prim.Native.Nat.{_+_, _/_, _≤_};
 ghost use lib.ListN.{length};
+ghost use Rattle.rules.specs.Codes.{smallCode};
 ghost use Rattle.rules.specs.Numbers.{decodeSaid};
 ghost use Rattle.textrules.specs.Text.{isHex, hexBytes};
 ghost use Rattle.textrules.specs.Dump.{longestLine, lineText, lineOf};
@@ -28,7 +29,7 @@ fn decode_into(
 ) -> Decoded
     requires { ⌜ isHex (now digits) ≡ true ⌝ }
     requires { ⌜ (length (now digits) / 2 ≤ length (now received)) × (length (now digits) / 2 ≤ length (now mended)) ⌝ }
-    ensures { λ r. ⌜ r ≡ decodedOf (decodeSaid n allowance (hexBytes (now (digits .entry))) (hexBytes (now (digits .entry)))) ⌝ }
+    ensures { λ r. ⌜ r ≡ decodedOf (decodeSaid smallCode n allowance (hexBytes (now (digits .entry))) (hexBytes (now (digits .entry)))) ⌝ }
 {
     let bytes = bytes_of(digits, received);
     decode(n, allowance, &received[0..bytes], &mut mended[0..bytes])
@@ -37,7 +38,7 @@ fn decode_into(
 fn decode_digits(n: usize, allowance: usize, digits: &[u8]) -> Decoded
     requires { ⌜ isHex (now digits) ≡ true ⌝ }
     requires { ⌜ length (now digits) ≤ longestLine ⌝ }
-    ensures { λ r. ⌜ r ≡ decodedOf (decodeSaid n allowance (hexBytes (now (digits .entry))) (hexBytes (now (digits .entry)))) ⌝ }
+    ensures { λ r. ⌜ r ≡ decodedOf (decodeSaid smallCode n allowance (hexBytes (now (digits .entry))) (hexBytes (now (digits .entry)))) ⌝ }
 {
     let mut received = [0u8; MOST_BYTES];
     let mut mended = [0u8; MOST_BYTES];

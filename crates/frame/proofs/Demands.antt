@@ -4,12 +4,16 @@
 -- Assumes nothing.
 use mathlib.Core.Path.{_≡_, refl, sym, ap, subst⁻¹, _∙_}
 use mathlib.Core.Logic.{_≢_, _⊎_, inl, inr}
+use mathlib.Core.Bool.{Bool, true, false, _||_, true≢false}
 use mathlib.Core.List.{List, [], _∷_}
 use Prim.Native.Nat.{ℕ, _+_, _*_, _≤_, _<_}
 use native.Mathlib.Decide.{ℕ-discrete}
 use native.Mathlib.Omega.{arith}
+use borrow.Author.Tests.{eq-eqb}
+use lib.Dec.{eqb}
 use lib.ListN.{length, getD}
-use Rattle.rules.specs.Words.{dataBits}
+use Rattle.rules.specs.Codes.{smallCode, dataBits}
+use Rattle.rules.specs.Words.{isIn}
 use Rattle.rules.specs.Frames.{Frame, corner, rowsFirst}
 use Rattle.rules.specs.Bits.{rowBytes, stride, bitAt, frameOf, bytesOf}
 use Rattle.rules.specs.Passes as passes
@@ -17,12 +21,11 @@ use Rattle.rules.specs.Passes.{Outcome, differences, decoded}
 use Rattle.rules.specs.Numbers as rules
 use Rattle.rules.specs.Numbers.{mostAllowed, dataBytes, frameBytes, encodeOutput, readNumber, readOutput, number, figuresOf, figuresWith, decodeSaid, decodeOutput}
 use Rattle.rules.proofs.Promises.Passes.{after, PassRule}
-use Rattle.rules.proofs.Promises.Refusals.{NumberTable, GoodRow, rowOfBytes, refuses}
+use Rattle.rules.proofs.Promises.Refusals.{NumberTable, GoodRow, rowOfBytes}
 use Rattle.rules.proofs.Promises.EntryRules.{Given, EncodeRule, ReadRule, decodeReasons, DecodeRule}
 use Rattle.rules.proofs.Promises.EntryRules as entry
-use Rattle.rules.proofs.Promises.Entries.{entries}
-use Rattle.rules.proofs.Promises.RoundTrip.{round-trips}
-use Rattle.rules.proofs.Promises.Repair.{Written, Spoiled, Back, Agree, repairs}
+use Rattle.rules.proofs.Promises.Repair.{Written, Spoiled, Back, Agree}
+use Rattle.rules.proofs.Promises.Promised.{promised-small}
 use Rattle.frame.specs.declared.decode.Ending.{Ending}
 use Rattle.frame.specs.declared.decode.Ending.the-variants.{Clean, Repaired, Stuck, Spent}
 use Rattle.frame.specs.declared.decode.Report.{Report}
@@ -39,20 +42,20 @@ pub record Demand₁ : Type 0 where
   pub encode :
       (n : ℕ) (message output : List ℕ) (r : ℕ) (exit : List ℕ) → Encodes n message output r exit
       → NumberTable (1 ∷ 2 ∷ 3 ∷ 5 ∷ []) [] r
-      (bytesOf n (rowsFirst n (frameOf (dataBits n) message))) message output exit
+      (bytesOf n (rowsFirst smallCode n (frameOf (dataBits smallCode n) message))) message output exit
   pub read :
       (n : ℕ) (frame output : List ℕ) (r : ℕ) (exit : List ℕ) → Reads n frame output r exit
       → NumberTable (1 ∷ 2 ∷ 3 ∷ 6 ∷ []) [] r
-      (bytesOf (dataBits n) (corner (dataBits n) (frameOf n frame))) frame output exit
+      (bytesOf (dataBits smallCode n) (corner (dataBits smallCode n) (frameOf n frame))) frame output exit
   pub decode :
       (n allowance : ℕ) (received output : List ℕ) (r : Decoded) (exit : List ℕ) → Decodes n allowance received output r exit
       → NumberTable (1 ∷ 2 ∷ 3 ∷ 4 ∷ []) (7 ∷ 8 ∷ []) (figures r .number)
-      (bytesOf n (decoded n allowance (frameOf n received) .last)) received output exit
+      (bytesOf n (decoded smallCode n allowance (frameOf n received) .last)) received output exit
   -- a row that is there takes 3 bytes or more, and any other is empty
   pub row :
       (n : ℕ) (frame : List ℕ) (i : ℕ) (r : List ℕ) → TakesRow n frame i r
-      → (GoodRow n frame i → (r ≡ rowOfBytes n frame i) × (length r ≡ rowBytes n) × (3 ≤ rowBytes n))
-      × (¬ GoodRow n frame i → r ≡ [])
+      → (GoodRow smallCode n frame i → (r ≡ rowOfBytes n frame i) × (length r ≡ rowBytes n) × (3 ≤ rowBytes n))
+      × (¬ GoodRow smallCode n frame i → r ≡ [])
 
 -- ---- Demand 2: frames and passes are those of the rules, pass for pass
 
@@ -65,23 +68,23 @@ outcomeAs n f e r =
       flips = r .flips;
       rows = r .rows;
       columns = r .columns;
-      last = after n f (r .passes);
+      last = after smallCode n f (r .passes);
     }
 
 -- what each ending says of the received frame f, by the pass rule, and what then stands in the output
 abbrev pub EndingSays : ℕ → ℕ → Frame → List ℕ → Ending → Report → List ℕ → Type 0
 EndingSays n a f received Clean r exit =
-    PassRule n a f (outcomeAs n f passes.clean r) × (exit ≡ bytesOf n (after n f (r .passes)))
+    PassRule smallCode n a f (outcomeAs n f passes.clean r) × (exit ≡ bytesOf n (after smallCode n f (r .passes)))
 EndingSays n a f received Repaired r exit =
-    PassRule n a f (outcomeAs n f passes.repaired r) × (exit ≡ bytesOf n (after n f (r .passes)))
-EndingSays n a f received Stuck r exit = PassRule n a f (outcomeAs n f passes.stuck r) × (exit ≡ received)
-EndingSays n a f received Spent r exit = PassRule n a f (outcomeAs n f passes.spent r) × (exit ≡ received)
+    PassRule smallCode n a f (outcomeAs n f passes.repaired r) × (exit ≡ bytesOf n (after smallCode n f (r .passes)))
+EndingSays n a f received Stuck r exit = PassRule smallCode n a f (outcomeAs n f passes.stuck r) × (exit ≡ received)
+EndingSays n a f received Spent r exit = PassRule smallCode n a f (outcomeAs n f passes.spent r) × (exit ≡ received)
 
 -- a refusal has the number of the first reason that is there, and leaves the output; else the passes ended
 abbrev pub DecodeSays : ℕ → ℕ → List ℕ → List ℕ → Decoded → List ℕ → Type 0
-DecodeSays n a received output (Refused k) exit = (k ≢ 0) × Given (decodeReasons n a received output) k × (exit ≡ output)
+DecodeSays n a received output (Refused k) exit = (k ≢ 0) × Given (decodeReasons smallCode n a received output) k × (exit ≡ output)
 DecodeSays n a received output (Ended r) exit =
-    Given (decodeReasons n a received output) 0 × EndingSays n a (frameOf n received) received (r .ending) r exit
+    Given (decodeReasons smallCode n a received output) 0 × EndingSays n a (frameOf n received) received (r .ending) r exit
 
 -- a report's fields by their names
 abbrev pub ended : Ending → ℕ → ℕ → ℕ → ℕ → Decoded
@@ -91,9 +94,9 @@ pub record Demand₂ : Type 0 where
   -- the rule of each entry point names each number beside its reason
   pub encode :
       (n : ℕ) (message output : List ℕ) (r : ℕ) (exit : List ℕ) → Encodes n message output r exit
-      → EncodeRule n message output r exit
+      → EncodeRule smallCode n message output r exit
   pub read :
-      (n : ℕ) (frame output : List ℕ) (r : ℕ) (exit : List ℕ) → Reads n frame output r exit → ReadRule n frame output r exit
+      (n : ℕ) (frame output : List ℕ) (r : ℕ) (exit : List ℕ) → Reads n frame output r exit → ReadRule smallCode n frame output r exit
   pub decode :
       (n allowance : ℕ) (received output : List ℕ) (r : Decoded) (exit : List ℕ) → Decodes n allowance received output r exit
       → DecodeSays n allowance received output r exit
@@ -106,7 +109,7 @@ pub record Demand₂ : Type 0 where
   -- what was encoded is read back; the message's entries are bytes
   pub back :
       (n : ℕ) (message output frame : List ℕ) → Encodes n message output 0 frame → ((p : ℕ) → getD message p 0 < 256)
-      → (lent : List ℕ) (r : ℕ) (exit : List ℕ) → length lent ≡ dataBytes n → Reads n frame lent r exit
+      → (lent : List ℕ) (r : ℕ) (exit : List ℕ) → length lent ≡ dataBytes smallCode n → Reads n frame lent r exit
       → (r ≡ 0) × (exit ≡ message)
   -- and is clean, with no pass
   pub clean :
@@ -126,7 +129,7 @@ pub record Demand₃ : Type 0 where
   -- any written frame, spoiled so that at most two rows have three or more wrong bits
   pub repairs :
       (n : ℕ) (message blank written : List ℕ) → Encodes n message blank 0 written
-      → (received : List ℕ) → Spoiled n written received → ComesBack n written received
+      → (received : List ℕ) → Spoiled smallCode n written received → ComesBack n written received
   -- so does any frame with at most eight wrong bits
   pub eight-bits :
       (n : ℕ) (message blank written : List ℕ) → Encodes n message blank 0 written
@@ -148,7 +151,7 @@ pub record Demand₃ : Type 0 where
   pub apart :
       (n : ℕ) (message blank written message′ blank′ written′ : List ℕ) → Encodes n message blank 0 written
       → Encodes n message′ blank′ 0 written′ → written ≢ written′
-      → (received received′ : List ℕ) → Spoiled n written received → Spoiled n written′ received′ → ¬ Agree n received received′
+      → (received received′ : List ℕ) → Spoiled smallCode n written received → Spoiled smallCode n written′ received′ → ¬ Agree n received received′
 
 -- ---- Two calls alike return and leave the same
 
@@ -169,21 +172,21 @@ pub record Determined : Type 0 where
 
 pub demand₁ : Demand₁
 demand₁ = record {
-  encode = λ n message output r exit e. rw (e .0, e .1) (refuses .encode n message output);
-  read = λ n frame output r exit e. rw (e .0, e .1) (refuses .read n frame output);
+  encode = λ n message output r exit e. rw (e .0, e .1) (promised-small .refuses .encode n message output);
+  read = λ n frame output r exit e. rw (e .0, e .1) (promised-small .refuses .read n frame output);
   decode = λ n allowance received output r exit e.
-      rw (e .0, e .1, ap (λ f. f .number) (figures-said (decodeSaid n allowance received output)))
-      (refuses .decode n allowance received output);
+      rw (e .0, e .1, ap (λ f. f .number) (figures-said (decodeSaid smallCode n allowance received output)))
+      (promised-small .refuses .decode n allowance received output);
   row = λ n frame i r e.
-      let p = refuses .row n frame i in (
-        λ g. let q = p .0 g in (e ∙ q .0, ap length (e ∙ q .0) ∙ q .1, q .2),
+      let p = promised-small .refuses .row n frame i in (
+        λ g. let q = p .0 g in (e ∙ q .0, ap length (e ∙ q .0) ∙ q .1, omega (arith, g .0)),
         λ g. e ∙ p .1 g,
       );
 }
 
 -- an outcome that keeps the pass rule, in the code's own cases
 ending-says :
-    (n a : ℕ) (received exit : List ℕ) (o : Outcome) → PassRule n a (frameOf n received) o
+    (n a : ℕ) (received exit : List ℕ) (o : Outcome) → PassRule smallCode n a (frameOf n received) o
     → exit ≡ entry.written n received (o .ending) (o .last)
     → EndingSays n a (frameOf n received) received (endingOf (o .ending)) (reportOf o) exit
 ending-says n a received exit o k x =
@@ -192,8 +195,8 @@ ending-says n a received exit o k x =
     (x ∙ ap (entry.written n received (o .ending)) (k .last-is))
   where
     go :
-        (e : passes.Ending) → PassRule n a (frameOf n received) (outcomeAs n (frameOf n received) e (reportOf o))
-        → exit ≡ entry.written n received e (after n (frameOf n received) (o .passes))
+        (e : passes.Ending) → PassRule smallCode n a (frameOf n received) (outcomeAs n (frameOf n received) e (reportOf o))
+        → exit ≡ entry.written n received e (after smallCode n (frameOf n received) (o .passes))
         → EndingSays n a (frameOf n received) received (endingOf e) (reportOf o) exit
     go passes.clean p y = (p, y)
     go passes.repaired p y = (p, y)
@@ -205,8 +208,8 @@ decode-says :
     → DecodeSays n a received output r exit
 decode-says n a received output r exit e = go (ℕ-discrete (rule .refusal) 0)
   where
-    rule : DecodeRule n a received output (decodeSaid n a received output) exit
-    rule = rw (e .1) (entries .decodes n a received output)
+    rule : DecodeRule smallCode n a received output (decodeSaid smallCode n a received output) exit
+    rule = rw (e .1) (promised-small .entries .decodes n a received output)
 
     go : Dec (rule .refusal ≡ 0) → DecodeSays n a received output r exit
     go (yes z) =
@@ -219,8 +222,8 @@ decode-says n a received output r exit e = go (ℕ-discrete (rule .refusal) 0)
 
 pub demand₂ : Demand₂
 demand₂ = record {
-  encode = λ n message output r exit e. rw (e .0, e .1) (entries .encodes n message output);
-  read = λ n frame output r exit e. rw (e .0, e .1) (entries .reads n frame output);
+  encode = λ n message output r exit e. rw (e .0, e .1) (promised-small .entries .encodes n message output);
+  read = λ n frame output r exit e. rw (e .0, e .1) (promised-small .entries .reads n frame output);
   decode = decode-says;
   refused-is = λ k. refl;
   clean-is = λ p f r c. refl;
@@ -228,21 +231,21 @@ demand₂ = record {
   stuck-is = λ p f r c. refl;
   spent-is = λ p f r c. refl;
   back = λ n message output frame e bytes lent r exit h c.
-      let t = round-trips .trip n message output (sym (e .0)) in
-      let p : (readNumber n frame lent ≡ 0) × (readOutput n frame lent ≡ message) =
-      subst⁻¹ (λ s. (readNumber n s lent ≡ 0) × (readOutput n s lent ≡ message)) (e .1)
-      (t .reads bytes (encodeOutput n message output) lent (t .received) h) in
+      let t = promised-small .round-trips .trip n message output (sym (e .0)) in
+      let p : (readNumber smallCode n frame lent ≡ 0) × (readOutput smallCode n frame lent ≡ message) =
+      subst⁻¹ (λ s. (readNumber smallCode n s lent ≡ 0) × (readOutput smallCode n s lent ≡ message)) (e .1)
+      (t .reads bytes (encodeOutput smallCode n message output) lent (t .received) h) in
       (c .0 ∙ p .0, c .1 ∙ p .1);
   clean = λ n message output frame e allowance lent r exit h lo hi c.
-      let t = round-trips .trip n message output (sym (e .0)) in
-      let p : (decodeSaid n allowance frame lent ≡ rules.ended passes.clean 0 0 0 0) × (decodeOutput n allowance frame lent ≡ frame) =
-      subst⁻¹ (λ s. (decodeSaid n allowance s lent ≡ rules.ended passes.clean 0 0 0 0) × (decodeOutput n allowance s lent ≡ s)) (e .1)
-      (t .decodes (encodeOutput n message output) lent allowance (t .received) h lo hi) in
+      let t = promised-small .round-trips .trip n message output (sym (e .0)) in
+      let p : (decodeSaid smallCode n allowance frame lent ≡ rules.ended passes.clean 0 0 0 0) × (decodeOutput smallCode n allowance frame lent ≡ frame) =
+      subst⁻¹ (λ s. (decodeSaid smallCode n allowance s lent ≡ rules.ended passes.clean 0 0 0 0) × (decodeOutput smallCode n allowance s lent ≡ s)) (e .1)
+      (t .decodes (encodeOutput smallCode n message output) lent allowance (t .received) h lo hi) in
       (c .0 ∙ ap decodedOf (p .0), c .1 ∙ p .1);
 }
 
 -- an encoding that gave 0 is one that rules' definition accepts
-writes : (n : ℕ) (message output written : List ℕ) → Encodes n message output 0 written → Written n written
+writes : (n : ℕ) (message output written : List ℕ) → Encodes n message output 0 written → Written smallCode n written
 writes n message output written e = record { input = message; blank = output; accepts = sym (e .0); writes = sym (e .1) }
 
 -- number 0, of an outcome: clean or repaired
@@ -262,14 +265,14 @@ success o = go (o .ending)
 
 back-here :
     (n : ℕ) (message blank written : List ℕ) → Encodes n message blank 0 written
-    → (received : List ℕ) → Spoiled n written received → ComesBack n written received
+    → (received : List ℕ) → Spoiled smallCode n written received → ComesBack n written received
 back-here n message blank written e received s allowance output r exit lo hi h c = go (ℕ-discrete (rule .refusal) 0)
   where
-    back : Back n allowance written received output
-    back = repairs .back n allowance written received output (writes n message blank written e) s lo hi h
+    back : Back smallCode n allowance written received output
+    back = promised-small .repairs .back n allowance written received output (writes n message blank written e) s lo hi h
 
-    rule : DecodeRule n allowance received output (decodeSaid n allowance received output) (decodeOutput n allowance received output)
-    rule = entries .decodes n allowance received output
+    rule : DecodeRule smallCode n allowance received output (decodeSaid smallCode n allowance received output) (decodeOutput smallCode n allowance received output)
+    rule = promised-small .entries .decodes n allowance received output
 
     go :
         Dec (rule .refusal ≡ 0)
@@ -280,17 +283,33 @@ back-here n message blank written e received s allowance output r exit lo hi h c
         (reportOf (o .0), c .0 ∙ ap decodedOf (o .2), k .0, k .1, c .1 ∙ back .bytes)
     go (no z) = absurd (z (sym (ap number (rule .refuses z .0)) ∙ back .zero))
 
+-- neither of two places
+not-named : (i p q : ℕ) → isIn i (p ∷ q ∷ []) ≡ false → (i ≢ p) × (i ≢ q)
+unfolding isIn
+not-named i p q h =
+    let t = split (eqb i p) (eqb i q) h in
+    (λ e. true≢false (sym (eq-eqb i p e) ∙ t .0), λ e. true≢false (sym (eq-eqb i q e) ∙ t .1))
+  where
+    split : (a b : Bool) → (a || (b || false)) ≡ false → (a ≡ false) × (b ≡ false)
+    split true b h = absurd (true≢false h)
+    split false true h = absurd (true≢false h)
+    split false false h = (refl, refl)
+
 pub demand₃ : Demand₃
 demand₃ = record {
   repairs = back-here;
   eight-bits = λ n message blank written e received h few.
-      back-here n message blank written e received (repairs .eight-bits n written received h few);
+      back-here n message blank written e received (promised-small .repairs .few-bits n written received h (omega (arith, few)));
   rows-lost = λ n message blank written e received p q h kept.
-      back-here n message blank written e received (repairs .rows-lost n written received p q h kept);
+      back-here n message blank written e received
+      (promised-small .repairs .rows-lost n written received (p ∷ q ∷ []) (omega arith) h
+      (λ i j hi hj out. let k = not-named i p q out in kept i j hi hj (k .0) (k .1)));
   columns-lost = λ n message blank written e received p q h kept.
-      back-here n message blank written e received (repairs .columns-lost n written received p q h kept);
+      back-here n message blank written e received
+      (promised-small .repairs .columns-lost n written received (p ∷ q ∷ []) (omega arith) h
+      (λ i j hi hj out. let k = not-named j p q out in kept i j hi hj (k .0) (k .1)));
   apart = λ n message blank written message′ blank′ written′ e e′ d received received′ s s′.
-      repairs .apart n written written′ received received′ (writes n message blank written e)
+      promised-small .repairs .apart n written written′ received received′ (writes n message blank written e)
       (writes n message′ blank′ written′ e′) d s s′;
 }
 

@@ -10,6 +10,7 @@ use word::numbers::BAD_OUTPUT_LENGTH;
 use word::sizes::outside;
 ghost use mathlib.Core.Path.{_≡_};
 ghost use Prim.Native.Nat.{_≤_};
+ghost use Rattle.rules.specs.Codes.{smallCode};
 ghost use Rattle.rules.specs.Passes.{isStuck};
 ghost use Rattle.rules.specs.Numbers.{mostAllowed, notAllowed};
 ghost use Rattle.laws.specs.Turns.{Ready};
@@ -86,7 +87,7 @@ fn is_stuck(pass: usize, changes: usize) -> bool
 
 // The passes, made in the frame itself: it is left as the last pass left it.
 fn repair(n: usize, allowance: usize, s: &mut [u8]) -> Report
-    requires { ⌜ Ready n (now s) × (1 ≤ allowance) × (allowance ≤ mostAllowed) ⌝ }
+    requires { ⌜ Ready smallCode n (now s) × (1 ≤ allowance) × (allowance ≤ mostAllowed) ⌝ }
     ensures { λ r. ⌜ Repairs n allowance (now (s .entry)) r (now (s .exit)) ⌝ }
 {
     let mut rows = bad(n, s, false);

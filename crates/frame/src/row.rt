@@ -3,12 +3,13 @@ use crate::sizes::square_bytes;
 use word::sizes::outside;
 use word::sizes::row_bytes;
 ghost use mathlib.Core.Path.{_≡_};
+ghost use Rattle.rules.specs.Codes.{smallCode};
 ghost use Rattle.rules.specs.Numbers.{rowRefused};
 ghost use Rattle.frame.specs.Calls.{TakesRow};
 
 // Whether n or the length is wrong, or i is not below n.
 fn is_refused(n: usize, frame: &[u8], i: usize) -> bool
-    ensures { λ r. ⌜ r ≡ rowRefused n (now (frame .entry)) i ⌝ }
+    ensures { λ r. ⌜ r ≡ rowRefused smallCode n (now (frame .entry)) i ⌝ }
 {
     if outside(n) {
         return true;

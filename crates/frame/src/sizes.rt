@@ -2,12 +2,12 @@
 use word::sizes::row_bytes;
 ghost use mathlib.Core.Path.{_≡_};
 ghost use Prim.Native.Nat.{_≤_};
-ghost use Rattle.rules.specs.Words.{longest};
+ghost use Rattle.rules.specs.Codes.{lengthLimit};
 ghost use Rattle.rules.specs.Bits.{squareBytes};
 
 // n rows of n bits.
 pub(crate) fn square_bytes(n: usize) -> usize
-    requires { ⌜ n ≤ longest ⌝ }
+    requires { ⌜ n ≤ lengthLimit ⌝ }
     ensures { λ r. ⌜ r ≡ squareBytes n ⌝ }
 {
     n * row_bytes(n)

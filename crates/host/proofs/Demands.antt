@@ -5,17 +5,17 @@ use mathlib.Core.Path.{_≡_, refl, sym, ap, _∙_}
 use mathlib.Core.List.{List, [], _∷_}
 use Prim.Native.Nat.{ℕ, _≤_, _<_}
 use lib.ListN.{length, getD}
-use Rattle.rules.specs.Words.{dataBits}
+use Rattle.rules.specs.Codes.{smallCode, dataBits}
 use Rattle.rules.specs.Frames.{corner, rowsFirst}
 use Rattle.rules.specs.Bits.{frameOf, bytesOf}
 use Rattle.rules.specs.Passes.{decoded}
 use Rattle.rules.specs.Numbers.{mostAllowed, dataBytes, frameBytes, Decoded, figuresOf, decodeSaid}
 use Rattle.rules.specs.Packed.{unpackedFigures}
 use Rattle.rules.proofs.Promises.Packing.{packs}
-use Rattle.rules.proofs.Promises.Refusals.{NumberTable, refuses}
+use Rattle.rules.proofs.Promises.Refusals.{NumberTable}
 use Rattle.rules.proofs.Promises.EntryRules.{EncodeRule, ReadRule, DecodeRule}
-use Rattle.rules.proofs.Promises.Entries.{entries}
-use Rattle.rules.proofs.Promises.Repair.{Spoiled, repairs}
+use Rattle.rules.proofs.Promises.Repair.{Spoiled}
+use Rattle.rules.proofs.Promises.Promised.{promised-small}
 use Rattle.frame.specs.declared.decode.Decoded as code
 use Rattle.frame.specs.Calls.{Encodes, Reads, Decodes}
 use Rattle.frame.specs.Said.{decodedOf, figures}
@@ -28,28 +28,28 @@ pub record HostDemands : Type 0 where
   pub encode-answers :
       (n : ℕ) (message output : List ℕ) (r : ℕ) (exit : List ℕ) → Encodes n message output r exit
       → NumberTable (1 ∷ 2 ∷ 3 ∷ 5 ∷ []) [] r
-      (bytesOf n (rowsFirst n (frameOf (dataBits n) message))) message output exit
+      (bytesOf n (rowsFirst smallCode n (frameOf (dataBits smallCode n) message))) message output exit
   pub read-answers :
       (n : ℕ) (frame output : List ℕ) (r : ℕ) (exit : List ℕ) → Reads n frame output r exit
       → NumberTable (1 ∷ 2 ∷ 3 ∷ 6 ∷ []) [] r
-      (bytesOf (dataBits n) (corner (dataBits n) (frameOf n frame))) frame output exit
+      (bytesOf (dataBits smallCode n) (corner (dataBits smallCode n) (frameOf n frame))) frame output exit
   pub decode-answers :
       (n allowance : ℕ) (received output : List ℕ) (r : ℕ) (exit : List ℕ) → DecodesPacked n allowance received output r exit
       → NumberTable (1 ∷ 2 ∷ 3 ∷ 4 ∷ []) (7 ∷ 8 ∷ []) (unpackedFigures r .number)
-      (bytesOf n (decoded n allowance (frameOf n received) .last)) received output exit
+      (bytesOf n (decoded smallCode n allowance (frameOf n received) .last)) received output exit
   -- demand 2: each keeps its entry point's rule, which names each number beside its reason
   pub encode :
       (n : ℕ) (message output : List ℕ) (r : ℕ) (exit : List ℕ) → Encodes n message output r exit
-      → EncodeRule n message output r exit
+      → EncodeRule smallCode n message output r exit
   pub read :
-      (n : ℕ) (frame output : List ℕ) (r : ℕ) (exit : List ℕ) → Reads n frame output r exit → ReadRule n frame output r exit
+      (n : ℕ) (frame output : List ℕ) (r : ℕ) (exit : List ℕ) → Reads n frame output r exit → ReadRule smallCode n frame output r exit
   pub decode :
       (n allowance : ℕ) (received output : List ℕ) (r : ℕ) (exit : List ℕ) → DecodesPacked n allowance received output r exit
-      → (d : Decoded) × (unpackedFigures r ≡ figuresOf d) × DecodeRule n allowance received output d exit
+      → (d : Decoded) × (unpackedFigures r ≡ figuresOf d) × DecodeRule smallCode n allowance received output d exit
   -- what was encoded is read back
   pub back :
       (n : ℕ) (message output frame : List ℕ) → Encodes n message output 0 frame → ((p : ℕ) → getD message p 0 < 256)
-      → (lent : List ℕ) (r : ℕ) (exit : List ℕ) → length lent ≡ dataBytes n → Reads n frame lent r exit
+      → (lent : List ℕ) (r : ℕ) (exit : List ℕ) → length lent ≡ dataBytes smallCode n → Reads n frame lent r exit
       → (r ≡ 0) × (exit ≡ message)
   -- a call of decode is one of the library's, and its values are read out of the number
   pub library :
@@ -58,7 +58,7 @@ pub record HostDemands : Type 0 where
   -- demand 3
   pub comes-back :
       (n : ℕ) (message blank written : List ℕ) → Encodes n message blank 0 written
-      → (received : List ℕ) → Spoiled n written received
+      → (received : List ℕ) → Spoiled smallCode n written received
       → (allowance : ℕ) (output : List ℕ) (r : ℕ) (exit : List ℕ) → 2 ≤ allowance → allowance ≤ mostAllowed
       → length output ≡ frameBytes n → DecodesPacked n allowance received output r exit
       → (unpackedFigures r .number ≡ 0) × (unpackedFigures r .passes ≤ 2) × (exit ≡ written)
@@ -71,33 +71,33 @@ pub record HostDemands : Type 0 where
 
 read-out :
     (n allowance : ℕ) (received output : List ℕ) (r : ℕ) (exit : List ℕ) → DecodesPacked n allowance received output r exit
-    → unpackedFigures r ≡ figuresOf (decodeSaid n allowance received output)
+    → unpackedFigures r ≡ figuresOf (decodeSaid smallCode n allowance received output)
 read-out n allowance received output r exit e =
     ap unpackedFigures (e .0)
-    ∙ packs .read-back (figuresOf (decodeSaid n allowance received output)) (packs .fits n allowance received output)
+    ∙ packs .read-back (figuresOf (decodeSaid smallCode n allowance received output)) (packs .fits n allowance received output)
 
 pub host-demands : HostDemands
 host-demands = record {
   encode-answers = demand₁ .encode;
   read-answers = demand₁ .read;
   decode-answers = λ n allowance received output r exit e.
-      rw (read-out n allowance received output r exit e, e .1) (refuses .decode n allowance received output);
+      rw (read-out n allowance received output r exit e, e .1) (promised-small .refuses .decode n allowance received output);
   encode = demand₂ .encode;
   read = demand₂ .read;
   decode = λ n allowance received output r exit e. (
-    decodeSaid n allowance received output,
+    decodeSaid smallCode n allowance received output,
     read-out n allowance received output r exit e,
-    rw (e .1) (entries .decodes n allowance received output),
+    rw (e .1) (promised-small .entries .decodes n allowance received output),
   );
   back = demand₂ .back;
   library = λ n allowance received output r exit e. (
-    decodedOf (decodeSaid n allowance received output),
+    decodedOf (decodeSaid smallCode n allowance received output),
     (refl, e .1),
-    read-out n allowance received output r exit e ∙ sym (figures-said (decodeSaid n allowance received output)),
+    read-out n allowance received output r exit e ∙ sym (figures-said (decodeSaid smallCode n allowance received output)),
   );
   comes-back = λ n message blank written w received s allowance output r exit lo hi h e.
       let k =
-      repairs .back n allowance written received output
+      promised-small .repairs .back n allowance written received output
       (record { input = message; blank = blank; accepts = sym (w .0); writes = sym (w .1) }) s lo hi h in
       let is = read-out n allowance received output r exit e in
       (ap (λ f. f .number) is ∙ k .zero, rw is (k .few), e .1 ∙ k .bytes);

@@ -13,23 +13,25 @@ use borrow.Author.Tests.{lt-ltb, le-ltb, eq-eqb, ne-eqb}
 use Rattle.algebra.specs.Tables.{tab, num}
 use Rattle.algebra.specs.Words.{Word, bit}
 use Rattle.algebra.proofs.TableLaws.{tab-at, tab-length, tab-ext}
+use Rattle.rules.specs.Codes.{Code, lengthLimit}
 use Rattle.rules.specs.Frames.{Frame, row, cell, corner}
 use Rattle.rules.specs.Bits.{rowBytes, stride, squareBytes, bitAt, wordOf, frameOf, packed, byteOf, bytesOf, spareOnes}
 use Rattle.rules.proofs.Laws.Shape.{square-tab, Square, square-ext, corner-square, corner-cell, bit-past, bit-tab, row-tab, frameOf-cell, frameOf-square, wordOf-length, wordOf-bit}
 use Rattle.rules.proofs.Laws.PackLaws.{frame-of-bytes, bytesOf-length, bytes-of-frame, spares-of-bytes}
+use Rattle.laws.specs.InPlace.{mostBytes}
 use Rattle.laws.specs.Turns.{cornered, Ready}
 
 -- ---- sizes, where w stands for the bytes of a row
 
-pub square-small : (n w : ℕ) → w ≡ rowBytes n → n ≤ 256 → n * w ≤ 8192
-square-small n w e h = mul-le-mul {n₂ = 256} {m₂ = 32} h (omega arith)
+pub square-small : (n w : ℕ) → w ≡ rowBytes n → n ≤ lengthLimit → n * w ≤ mostBytes
+square-small n w e h = mul-le-mul {n₂ = lengthLimit} {m₂ = rowBytes lengthLimit} h (omega arith)
 
 -- row i lies inside
-pub row-fits : (n w i : ℕ) → w ≡ rowBytes n → n ≤ 256 → i < n → (i * w + w ≤ squareBytes n) × (squareBytes n ≤ 8192)
+pub row-fits : (n w i : ℕ) → w ≡ rowBytes n → n ≤ lengthLimit → i < n → (i * w + w ≤ squareBytes n) × (squareBytes n ≤ mostBytes)
 row-fits n w i e h l =
     (rw e (omega (arith, suc-mul i (rowBytes n), mul-le-mul-right (rowBytes n) l)), square-small n (rowBytes n) refl h)
 
-pub place-small : (n w p : ℕ) → w ≡ rowBytes n → 1 ≤ n → n ≤ 256 → p % w ≤ 256
+pub place-small : (n w p : ℕ) → w ≡ rowBytes n → 1 ≤ n → n ≤ lengthLimit → p % w ≤ lengthLimit
 place-small n w p e l h = let pos : 0 < w = omega arith in omega (arith, mod-lt p pos)
 
 -- ---- a byte by its word's bits
@@ -149,8 +151,8 @@ unfolding cornered
 cornered-square m n f = square-tab n (λ i j. ltb i m && (ltb j m && cell f i j))
 
 -- a frame's own bytes have none set
-pub ready : (n : ℕ) (f : Frame) (t : List ℕ) → 18 ≤ n → n ≤ 256 → Square n f → t ≡ bytesOf n f → Ready n t
-ready n f t lo hi s e = (
+pub ready : (code : Code) (n : ℕ) (f : Frame) (t : List ℕ) → code .shortest ≤ n → n ≤ code .longest → Square n f → t ≡ bytesOf n f → Ready code n t
+ready code n f t lo hi s e = (
   (lo, hi, ap length e ∙ bytesOf-length n f),
   e ∙ sym (ap (bytesOf n) (ap (frameOf n) e ∙ frame-of-bytes n f s)),
 )

@@ -1,4 +1,4 @@
--- Decoding's checks in the order in which the code makes them: the number that each gives, and what is said and handed out once all
+-- Decoding's checks in the order in which the program makes them: the number that each gives, and what is said and handed out once all
 -- are passed.
 -- Assumes nothing.
 use mathlib.Core.Path.{_≡_, refl, sym, ap, _∙_}
@@ -10,6 +10,7 @@ use native.Mathlib.Omega.{arith}
 use borrow.Author.Tests.{le-leb, lt-leb, ltb-true, ltb-false}
 use lib.Dec.{ltb}
 use lib.ListN.{length, take, drop}
+use Rattle.rules.specs.Codes.{Code}
 use Rattle.rules.specs.Frames.{Frame}
 use Rattle.rules.specs.Bits.{squareBytes, frameOf, bytesOf}
 use Rattle.rules.specs.Passes.{Outcome, decoded}
@@ -37,31 +38,31 @@ allowed-high a h = go (ltb mostAllowed a) refl
 
 -- ---- the checks
 
-module _ (n a : ℕ) (input output : List ℕ) where
+module _ (code : Code) (n a : ℕ) (input output : List ℕ) where
   -- the number is given, and the output untouched
   abbrev pub Refused : ℕ → Type 0
-  Refused k = (decodeSaid n a input output ≡ refused k) × (decodeOutput n a input output ≡ output)
+  Refused k = (decodeSaid code n a input output ≡ refused k) × (decodeOutput code n a input output ≡ output)
 
   -- the checks after the sizes
   abbrev later : RefusalList
-  later = drop 3 (decodeRefusals n a input output)
+  later = drop 3 (decodeRefusals code n a input output)
 
-  numbered : (k : ℕ) → first (decodeRefusals n a input output) ≡ suc k → Refused (suc k)
+  numbered : (k : ℕ) → first (decodeRefusals code n a input output) ≡ suc k → Refused (suc k)
   unfolding decodeRefusal
   numbered k e =
-      let r = decode-refused n a input output (λ z. absurd (omega arith)) in (r .0 ∙ ap refused e, r .1)
+      let r = decode-refused code n a input output (λ z. absurd (omega arith)) in (r .0 ∙ ap refused e, r .1)
 
-  pub refused-1 : outside n ≡ true → Refused 1
-  refused-1 h = numbered 0 (size-1 n input (squareBytes n) output (squareBytes n) later h)
+  pub refused-1 : outside code n ≡ true → Refused 1
+  refused-1 h = numbered 0 (size-1 code n input (squareBytes n) output (squareBytes n) later h)
 
-  pub refused-2 : outside n ≡ false → length input ≢ squareBytes n → Refused 2
-  refused-2 o h = numbered 1 (size-2 n input (squareBytes n) output (squareBytes n) later o h)
+  pub refused-2 : outside code n ≡ false → length input ≢ squareBytes n → Refused 2
+  refused-2 o h = numbered 1 (size-2 code n input (squareBytes n) output (squareBytes n) later o h)
 
-  pub refused-3 : outside n ≡ false → length input ≡ squareBytes n → length output ≢ squareBytes n → Refused 3
-  refused-3 o i h = numbered 2 (size-3 n input (squareBytes n) output (squareBytes n) later o i h)
+  pub refused-3 : outside code n ≡ false → length input ≡ squareBytes n → length output ≢ squareBytes n → Refused 3
+  refused-3 o i h = numbered 2 (size-3 code n input (squareBytes n) output (squareBytes n) later o i h)
 
-  pub refused-4 : Sized n input (squareBytes n) output (squareBytes n) → notAllowed a ≡ true → Refused 4
-  refused-4 f h = numbered 3 (size-later n input (squareBytes n) output (squareBytes n) later f ∙ rw h)
+  pub refused-4 : Sized code n input (squareBytes n) output (squareBytes n) → notAllowed a ≡ true → Refused 4
+  refused-4 f h = numbered 3 (size-later code n input (squareBytes n) output (squareBytes n) later f ∙ rw h)
 
 -- ---- all are passed
 
@@ -73,25 +74,25 @@ copied-frame n input s e =
     ∙ frame-of-bytes n (frameOf n input) (frameOf-square n input)
 
 -- what the checks leave
-pub record Accepted (n a : ℕ) (input output : List ℕ) : Type 0 where
-  pub sized : Sized n input (squareBytes n) output (squareBytes n)
+pub record Accepted (code : Code) (n a : ℕ) (input output : List ℕ) : Type 0 where
+  pub sized : Sized code n input (squareBytes n) output (squareBytes n)
   pub some : 1 ≤ a
   pub most : a ≤ mostAllowed
 
 pub accept :
-    (n a : ℕ) (input output : List ℕ) → Sized n input (squareBytes n) output (squareBytes n) → notAllowed a ≡ false → Accepted n a input output
-accept n a input output f h =
+    (code : Code) (n a : ℕ) (input output : List ℕ) → Sized code n input (squareBytes n) output (squareBytes n) → notAllowed a ≡ false → Accepted code n a input output
+accept code n a input output f h =
     let m = range-test 1 mostAllowed a .0 h in record { sized = f; some = m .0; most = m .1 }
 
 pub accepted :
-    (n a : ℕ) (input output : List ℕ) → Accepted n a input output
-    → (decodeSaid n a input output ≡ told (decoded n a (frameOf n input)))
-    × (decodeOutput n a input output ≡ handedOut n input (decoded n a (frameOf n input)))
+    (code : Code) (n a : ℕ) (input output : List ℕ) → Accepted code n a input output
+    → (decodeSaid code n a input output ≡ told (decoded code n a (frameOf n input)))
+    × (decodeOutput code n a input output ≡ handedOut n input (decoded code n a (frameOf n input)))
 unfolding decodeSaid decodeOutput
-accepted n a input output h =
-    let r : ℕ = decodeRefusal n a input output in
-    let o : Outcome = decoded n a (frameOf n input) in
-    let z : r ≡ 0 = decode-accepts n a input output .1 (h .sized, (h .some, h .most)) in
+accepted code n a input output h =
+    let r : ℕ = decodeRefusal code n a input output in
+    let o : Outcome = decoded code n a (frameOf n input) in
+    let z : r ≡ 0 = decode-accepts code n a input output .1 (h .sized, (h .some, h .most)) in
     (at-zero r (told o) (refused r) z, at-zero r (handedOut n input o) output z)
 
 -- the received bytes fit over the frame, and copied there they are all of it

@@ -1,4 +1,4 @@
--- Laws that the code's proofs cite
+-- Laws that the programs' proofs cite
 -- Bits and words of a buffer
 pub mod InPlaceLaws
 pub mod ByteLaws
@@ -7,6 +7,7 @@ pub mod CheckLoopLaws
 pub mod MendLaws
 pub mod WordBytesLaws
 -- From checks to the answer, and from data to checks
+pub mod PlaceLaws
 pub mod PlaceSums
 pub mod LocatedLaws
 pub mod LocateSteps

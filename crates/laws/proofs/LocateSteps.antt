@@ -1,4 +1,4 @@
--- The steps of the code that locates: the values at a and a^3 bit by bit, a single place, the partner of a place, place after place.
+-- The steps of the program that locates: the values at a and a^3 bit by bit, a single place, the partner of a place, place after place.
 -- Assumes nothing.
 use mathlib.Core.Path.{_≡_, sym, ap, ap₂, _∙_}
 use mathlib.Core.Logic.{_≢_}

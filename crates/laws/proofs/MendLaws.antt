@@ -4,16 +4,19 @@ use mathlib.Core.Path.{_≡_, refl, sym, ap, ap₂, _∙_}
 use mathlib.Core.Logic.{_≢_, _⊎_, inl, inr}
 use mathlib.Core.Bool.{Bool, true, false, not, xor, _||_}
 use mathlib.Core.List.{List, [], _∷_}
+use mathlib.Core.Option.{Option, some, none}
 use Prim.Native.Nat.{ℕ, zero, suc, _+_, _*_, _≤_, _<_}
 use native.Mathlib.Decide.{decLt, ℕ-discrete}
 use native.Mathlib.Omega.{arith}
 use borrow.Author.Tests.{eq-eqb, ne-eqb}
 use lib.ListN.{length}
 use Rattle.algebra.specs.Words.{Word, bit}
-use Rattle.rules.specs.Words.{checks, nearest, Answer, codeword, onePlace, twoPlaces, beyond, answer, places, isIn, changed, mend}
+use Rattle.rules.specs.Codes.{Code}
+use Rattle.rules.specs.Words.{checks, answer, places, isIn, changed, mend}
 use Rattle.rules.specs.Bits.{bitAt}
+use Rattle.rules.proofs.Laws.CodeLaws.{Sound}
 use Rattle.rules.proofs.Laws.PatternLaws.{Rising, changed-bit}
-use Rattle.rules.proofs.Promises.Answers.{Fits, answers}
+use Rattle.rules.proofs.Promises.Answers.{Fits, answer-fits}
 use Rattle.laws.specs.InPlace.{wordAt, flipAt, put, Inside}
 use Rattle.laws.specs.Located.{located}
 use Rattle.laws.proofs.InPlaceLaws.{Bytes, wordAt-length, wordAt-bit, flipAt-length, flipAt-byte, flipAt-same, flipAt-other, put-length, put-byte, put-in, put-out, bits-ext, apart}
@@ -33,19 +36,19 @@ place-of (suc n) start step x = go (ℕ-discrete x (start + n * step)) (place-of
         → ((j : ℕ) × (j < suc n) × (x ≡ start + j * step)) ⊎ ((j : ℕ) → j < suc n → x ≢ start + j * step)
     go (yes e) rest = inl (n, omega arith, e)
     go (no e) (inl (j, l, q)) = inl (j, omega arith, q)
-    go (no e) (inr none) = inr (λ j l. other j l (ℕ-discrete j n))
+    go (no e) (inr past) = inr (λ j l. other j l (ℕ-discrete j n))
       where
         other : (j : ℕ) → j < suc n → Dec (j ≡ n) → x ≢ start + j * step
         other j l (yes q) = λ r. e (r ∙ ap (λ (i : ℕ). start + i * step) q)
-        other j l (no q) = none j (omega (arith, q))
+        other j l (no q) = past j (omega (arith, q))
 
 -- the word's bits stand in their places, and all else is as it was
 pub put-is :
-    (n : ℕ) (s t : List ℕ) (start step : ℕ) (u : Word) → Inside n s start step → Bytes s → Bytes t → length t ≡ length s
+    (code : Code) (n : ℕ) (s t : List ℕ) (start step : ℕ) (u : Word) → Inside code n s start step → Bytes s → Bytes t → length t ≡ length s
     → ((j : ℕ) → j < n → bitAt t (start + j * step) ≡ bit u j)
     → ((x : ℕ) → ((j : ℕ) → j < n → x ≢ start + j * step) → bitAt t x ≡ bitAt s x)
     → t ≡ put n s start step u
-put-is n s t start step u h bs bt l inside past =
+put-is code n s t start step u h bs bt l inside past =
     bits-ext t (put n s start step u) (l ∙ sym (put-length n s start step u)) bt (put-byte n s start step u bs)
     (λ x hx. go x (place-of n start step x))
   where
@@ -53,8 +56,8 @@ put-is n s t start step u h bs bt l inside past =
         (x : ℕ) → ((j : ℕ) × (j < n) × (x ≡ start + j * step)) ⊎ ((j : ℕ) → j < n → x ≢ start + j * step)
         → bitAt t x ≡ bitAt (put n s start step u) x
     go x (inl (j, k, e)) =
-        rw e (inside j k ∙ sym (put-in n s start step u j (h .3) k (place-inside n s start step j h (omega arith))))
-    go x (inr none) = past x none ∙ sym (put-out n s start step u x none)
+        rw e (inside j k ∙ sym (put-in n s start step u j (h .3) k (place-inside code n s start step j h (omega arith))))
+    go x (inr out) = past x out ∙ sym (put-out n s start step u x out)
 
 -- ---- places flipped one after another
 
@@ -127,31 +130,30 @@ flips-in m n s start step (p ∷ ps) j r h b =
 
 -- ---- the answer's places
 
-rising-of : (n : ℕ) (w : Word) (a : Answer) → Fits n w a → Rising 0 n (places a)
-rising-of n w codeword k = tt
-rising-of n w (onePlace p) k = (omega arith, k .0, tt)
-rising-of n w (twoPlaces p q) k = (omega arith, omega (arith, k .0, k .1), (k .0, k .1, tt))
-rising-of n w beyond k = tt
-
-pub places-rise : (n : ℕ) (w : Word) → 18 ≤ n → n ≤ 256 → length w ≡ n → Rising 0 n (places (answer n w))
-places-rise n w h b l = rising-of n w (answer n w) (answers n h b w l .fits)
+pub places-rise :
+    (code : Code) (ok : Sound code) (n : ℕ) (w : Word) → code .shortest ≤ n → length w ≡ n → Rising 0 n (places (answer code n w))
+places-rise code ok n w h l = go (answer code n w) (answer-fits code ok n h w l)
+  where
+    go : (a : Option (List ℕ)) → Fits code n w a → Rising 0 n (places a)
+    go (some ps) k = k .0
+    go none k = tt
 
 -- the answer by the checks alone
-pub located-answer : (n : ℕ) (w : Word) (x : ℕ) → x ≡ checks n w → located n x ≡ answer n w
-unfolding located answer nearest
-located-answer n w x e = ap (located n) e
+pub located-answer : (code : Code) (n : ℕ) (w : Word) (x : ℕ) → x ≡ checks code n w → located code n x ≡ answer code n w
+unfolding located answer
+located-answer code n w x e = ap (located code n) e
 
 pub mend-in-place :
-    (n : ℕ) (s : List ℕ) (start step : ℕ) → Inside n s start step → Bytes s
-    → flips s start step (places (answer n (wordAt n s start step))) ≡ put n s start step (mend n (wordAt n s start step))
+    (code : Code) (ok : Sound code) (n : ℕ) (s : List ℕ) (start step : ℕ) → Inside code n s start step → Bytes s
+    → flips s start step (places (answer code n (wordAt n s start step))) ≡ put n s start step (mend code n (wordAt n s start step))
 unfolding mend
-mend-in-place n s start step h b =
+mend-in-place code ok n s start step h b =
     let w : Word = wordAt n s start step in
-    let ps : List ℕ = places (answer n w) in
+    let ps : List ℕ = places (answer code n w) in
     let long : length w ≡ n = wordAt-length n s start step in
-    let r : Rising 0 n ps = places-rise n w (h .0) (h .1) long in
-    put-is n s (flips s start step ps) start step (changed ps w) h b (flips-byte s start step ps b) (flips-length s start step ps)
+    let r : Rising 0 n ps = places-rise code ok n w (h .0) long in
+    put-is code n s (flips s start step ps) start step (changed ps w) h b (flips-byte s start step ps b) (flips-length s start step ps)
     (λ j l.
-    flips-in 0 n s start step ps j r (h .3) (place-inside n s start step j h (omega arith))
+    flips-in 0 n s start step ps j r (h .3) (place-inside code n s start step j h (omega arith))
     ∙ sym (changed-bit ps w j (omega arith) ∙ ap (xor (isIn j ps)) (wordAt-bit n s start step j l)))
-    (λ x none. flips-out 0 n s start step ps x r none)
+    (λ x out. flips-out 0 n s start step ps x r out)

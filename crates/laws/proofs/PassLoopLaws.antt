@@ -10,6 +10,7 @@ use lib.Dec.{ltb}
 use Rattle.algebra.specs.Tables.{total}
 use Rattle.algebra.specs.Remainder.{isOdd}
 use Rattle.algebra.proofs.TableLaws.{tab-ext}
+use Rattle.rules.specs.Codes.{Code}
 use Rattle.rules.specs.Words.{mend}
 use Rattle.rules.specs.Frames.{Frame, row, transposed, Square}
 use Rattle.rules.specs.Passes.{passRows, passColumns, pass, differences}
@@ -20,13 +21,13 @@ use Rattle.laws.proofs.TurnLaws.{Keeps}
 
 -- ---- a pass made word by word
 
-pub mend-keeps : (n : ℕ) → Keeps n (mend n)
-mend-keeps n w l = mend-length n w ∙ l
+pub mend-keeps : (code : Code) (n : ℕ) → Keeps n (mend code n)
+mend-keeps code n w l = mend-length code n w ∙ l
 
-partly-all : (n : ℕ) (f : Frame) → partly n (mend n) n f ≡ passRows n f
+partly-all : (code : Code) (n : ℕ) (f : Frame) → partly n (mend code n) n f ≡ passRows code n f
 unfolding partly passRows
-partly-all n f =
-    tab-ext n (λ i. cond (ltb i n) (mend n (row f i)) (row f i)) (λ i. mend n (row f i)) (λ i h. rw (lt-ltb i n h))
+partly-all code n f =
+    tab-ext n (λ i. cond (ltb i n) (mend code n (row f i)) (row f i)) (λ i. mend code n (row f i)) (λ i h. rw (lt-ltb i n h))
 
 odd-next : (made : ℕ) → isOdd (suc made) ≡ not (isOdd made)
 odd-next made = go (made % 2) refl
@@ -36,27 +37,27 @@ odd-next made = go (made % 2) refl
     go (suc r) e = ne-eqb (suc made % 2) 1 (λ q. omega arith) ∙ ap not (sym (eq-eqb (made % 2) 1 (omega arith)))
 
 -- rows in passes 1, 3, .., columns in passes 2, 4, ..
-pub pass-worked : (n made : ℕ) (f : Frame) → worked n (isOdd made) (mend n) n f ≡ pass n (suc made) f
+pub pass-worked : (code : Code) (n made : ℕ) (f : Frame) → worked n (isOdd made) (mend code n) n f ≡ pass code n (suc made) f
 unfolding turned pass passColumns
-pass-worked n made f = go (isOdd made) (isOdd (suc made)) (odd-next made)
+pass-worked code n made f = go (isOdd made) (isOdd (suc made)) (odd-next made)
   where
     go :
         (b c : Bool) → c ≡ not b
-        → cond b (transposed n (partly n (mend n) n (cond b (transposed n f) f))) (partly n (mend n) n (cond b (transposed n f) f))
-        ≡ cond c (passRows n f) (transposed n (passRows n (transposed n f)))
-    go true c e = ap (transposed n) (partly-all n (transposed n f)) ∙ rw e
-    go false c e = partly-all n f ∙ rw e
+        → cond b (transposed n (partly n (mend code n) n (cond b (transposed n f) f))) (partly n (mend code n) n (cond b (transposed n f) f))
+        ≡ cond c (passRows code n f) (transposed n (passRows code n (transposed n f)))
+    go true c e = ap (transposed n) (partly-all code n (transposed n f)) ∙ rw e
+    go false c e = partly-all code n f ∙ rw e
 
 -- ---- the flips of a pass
 
 pub pass-flips :
-    (n made : ℕ) (f : Frame) → Square n f
-    → total n (flipsOf n (turned n (isOdd made) f)) ≡ differences n f (pass n (suc made) f)
+    (code : Code) (n made : ℕ) (f : Frame) → Square n f
+    → total n (flipsOf code n (turned n (isOdd made) f)) ≡ differences n f (pass code n (suc made) f)
 unfolding turned pass
-pass-flips n made f s = go (isOdd made) (isOdd (suc made)) (odd-next made)
+pass-flips code n made f s = go (isOdd made) (isOdd (suc made)) (odd-next made)
   where
     go :
         (b c : Bool) → c ≡ not b
-        → total n (flipsOf n (cond b (transposed n f) f)) ≡ differences n f (cond c (passRows n f) (passColumns n f))
-    go true c e = columns-flips n f s ∙ rw e
-    go false c e = rows-flips n f ∙ rw e
+        → total n (flipsOf code n (cond b (transposed n f) f)) ≡ differences n f (cond c (passRows code n f) (passColumns code n f))
+    go true c e = columns-flips code n f s ∙ rw e
+    go false c e = rows-flips code n f ∙ rw e

@@ -1,115 +1,29 @@
--- The places of a word by their values at a and a^3: what is located is the one rising list of at most two places with the
--- parity and the two sums of the checks.
+-- The places of a word of the small code, by their parity and their values at a and a^3.
 -- Assumes nothing.
-use mathlib.Core.Path.{_≡_, refl, sym, ap, ap₂, subst, _∙_}
-use mathlib.Core.Logic.{_≢_}
-use mathlib.Core.List.{List, [], _∷_, _++_, map}
-use mathlib.Core.Bool.{true, false}
-use mathlib.Core.Option.{Option, some, none}
-use Prim.Native.Nat.{ℕ, zero, suc, _+_, _*_, _-_, _/_, _%_, _^_, _≤_, _<_}
-use native.Mathlib.Nat.{zero-add, one-mul, add-suc, suc-add, add-zero}
+use mathlib.Core.Path.{_≡_, refl, sym, ap, ap₂, _∙_}
+use mathlib.Core.List.{[], _∷_, _++_, map}
+use Prim.Native.Nat.{ℕ, zero, suc, _+_, _*_, _-_, _/_, _%_, _^_, _<_}
+use native.Mathlib.Nat.{zero-add, one-mul}
 use native.Mathlib.Omega.{arith}
 use lib.Dec.{lit<}
-use lib.ListN.{length, getD}
+use lib.ListN.{getD}
 use Rattle.algebra.specs.Xor.{_⊕_}
 use Rattle.algebra.specs.Register.{iter, turn}
 use Rattle.algebra.specs.Linear.{lin}
-use Rattle.algebra.specs.Tables.{tab, tabFrom, ones}
-use Rattle.algebra.specs.Words.{Word, _⊻_, dot}
+use Rattle.algebra.specs.Tables.{tab, tabFrom}
 use Rattle.algebra.specs.Remainder.{powersDown, descend}
-use Rattle.algebra.specs.Sums.{xsum}
-use Rattle.algebra.proofs.XorLaws.{zero-⊕, ⊕-half, ⊕-digit, ⊕-lt, ≡→⊕-zero, by-digit}
+use Rattle.algebra.proofs.XorLaws.{⊕-half, ⊕-digit, ⊕-lt, by-digit}
 use Rattle.algebra.proofs.LinearLaws.{lin-additive}
-use Rattle.algebra.proofs.WordLaws.{dot-⊻, ⊻-length, ⊻-ones, differ-zero}
 use Rattle.algebra.proofs.RegisterLaws.{iter-lt, one-lt}
 use Rattle.algebra.proofs.RemainderLaws.{powersDown-suc}
 use Rattle.rules.specs.Field.{poly, timesA, power}
-use Rattle.rules.specs.Words.{values, within, asAnswer, beyond}
+use Rattle.rules.specs.Codes.{smallCode}
+use Rattle.rules.specs.Words.{values}
 use Rattle.rules.proofs.Laws.FieldLaws.{power-is}
-use Rattle.rules.proofs.Laws.CheckLaws.{low, low-small, g-low, values-length, checks-dot}
+use Rattle.rules.proofs.Laws.SmallCode.{low, low-small, g-low}
 use Rattle.rules.proofs.Laws.PowerSumLaws.{columns₁, columns₃, part, part-carried, parts-apart}
-use Rattle.rules.proofs.Laws.SearchLaws.{placesFrom, places-length, Says, within-says}
-use Rattle.rules.proofs.Laws.PatternLaws.{Rising, places-rising, pattern}
-use Rattle.rules.proofs.Promises.Distance.{few-places}
-use Rattle.laws.specs.Located.{located, valueOf, Sums}
-
--- ---- what is located, by the values of the places
-
--- the value of a place
-abbrev pub placeValue : ℕ → ℕ → ℕ
-placeValue n p = getD (values n) p 0
-
--- the ⊕ at a word's ones is that over their places
-dot-places :
-    (vs : List ℕ) (w : Word) (p : ℕ) (f : ℕ → ℕ) → length w ≡ length vs → ((j : ℕ) → f (p + j) ≡ getD vs j 0)
-    → dot vs w ≡ xsum f (placesFrom p w)
-unfolding dot placesFrom xsum
-dot-places [] [] p f l h = refl
-dot-places [] (b ∷ w) p f l h = absurd (omega arith)
-dot-places (v ∷ vs) [] p f l h = absurd (omega arith)
-dot-places (v ∷ vs) (true ∷ w) p f l h =
-    ap₂ _⊕_ (sym (ap f (sym (add-zero p)) ∙ h 0))
-    (dot-places vs w (suc p) f (omega arith) (λ j. ap f (suc-add p j ∙ sym (add-suc p j)) ∙ h (suc j)))
-dot-places (v ∷ vs) (false ∷ w) p f l h =
-    zero-⊕ (dot vs w)
-    ∙ dot-places vs w (suc p) f (omega arith) (λ j. ap f (suc-add p j ∙ sym (add-suc p j)) ∙ h (suc j))
-
-module _ (n : ℕ) (h : 18 ≤ n) (b : n ≤ 256) where
-  long : length (values n) ≡ n
-  long = go n h
-    where
-      go : (n : ℕ) → 18 ≤ n → length (values n) ≡ n
-      go zero h = absurd (omega arith)
-      go (suc m) h = values-length m
-
-  places-value : (w : Word) → length w ≡ n → dot (values n) w ≡ xsum (placeValue n) (placesFrom 0 w)
-  places-value w l =
-      dot-places (values n) w 0 (placeValue n) (l ∙ sym long) (λ j. ap (placeValue n) (zero-add j))
-
-  -- two patterns of at most two ones with one value are the same
-  unique : (e u : Word) → length e ≡ n → length u ≡ n → ones e ≤ 2 → ones u ≤ 2 → dot (values n) e ≡ dot (values n) u → e ≡ u
-  unique e u le lu oe ou d =
-      let s : length e ≡ length u = le ∙ sym lu in
-      let l : length (e ⊻ u) ≡ n = ⊻-length e u s ∙ le in
-      differ-zero e u s
-      (few-places n (e ⊻ u) (omega arith) b l (checks-dot n (e ⊻ u) (omega arith) l ∙ dot-⊻ (values n) e u s ∙ ≡→⊕-zero d)
-      (omega (arith, ⊻-ones e u)))
-
-  module _ (c : ℕ) where
-    -- whatever at most two places give these checks are what is located
-    pub places-located : (ps : List ℕ) → Rising 0 n ps → length ps ≤ 2 → xsum (placeValue n) ps ≡ c → located n c ≡ asAnswer (some ps)
-    unfolding located
-    places-located ps r few d =
-        let q = pattern n 0 ps (subst (λ m. Rising 0 m ps) (sym (zero-add n)) r) in
-        ap asAnswer (go (q .0) (q .1) (q .2) (within 2 (values n) c) (within-says 2 (values n) c))
-      where
-        go :
-            (w : Word) → length w ≡ n → placesFrom 0 w ≡ ps → (o : Option (List ℕ)) → Says (λ k. k ≤ 2) 0 (values n) c o
-            → o ≡ some ps
-        go w l q (some x) (e, le, oe, de, qe) =
-            ap some
-            (sym qe
-            ∙ ap (placesFrom 0)
-            (unique e w (le ∙ long) l oe (omega (arith, places-length 0 w, ap length q))
-            (de ∙ sym (places-value w l ∙ ap (xsum (placeValue n)) q ∙ d)))
-            ∙ q)
-        go w l q none miss =
-            absurd (miss w (l ∙ sym long) (omega (arith, places-length 0 w, ap length q))
-            (places-value w l ∙ ap (xsum (placeValue n)) q ∙ d))
-
-    -- and where there are none, nothing is
-    pub none-located :
-        ((ps : List ℕ) → Rising 0 n ps → length ps ≤ 2 → xsum (placeValue n) ps ≢ c) → located n c ≡ beyond
-    unfolding located asAnswer
-    none-located k = ap asAnswer (go (within 2 (values n) c) (within-says 2 (values n) c))
-      where
-        go : (o : Option (List ℕ)) → Says (λ k. k ≤ 2) 0 (values n) c o → o ≡ none
-        go (some x) (e, le, oe, de, qe) =
-            absurd (k (placesFrom 0 e) (subst (λ m. Rising 0 m (placesFrom 0 e)) (zero-add (length e) ∙ le ∙ long) (places-rising 0 e))
-            (omega (arith, places-length 0 e)) (sym (places-value e (le ∙ long)) ∙ de))
-        go none miss = refl
-
--- ---- the values of the places, by parity and the two sums
+use Rattle.laws.specs.Located.{checksEnd, valueOf, Sums}
+use Rattle.laws.proofs.PlaceLaws.{placeValue}
 
 -- z^e mod g
 abbrev zpower : ℕ → ℕ
@@ -131,14 +45,14 @@ last-at zero = refl
 last-at (suc m) =
     ap (λ l. getD (map (λ r. 2 * r + 1) l ++ 1 ∷ []) (suc m) 0) (powersDown-suc 15 low low-small m) ∙ last-at m
 
-values-low : (n : ℕ) → values n ≡ map (λ r. 2 * r + 1) (powersDown 16 (2 ^ 16 + low) (n - 1)) ++ 1 ∷ []
+values-low : (n : ℕ) → values smallCode n ≡ map (λ r. 2 * r + 1) (powersDown 16 (2 ^ 16 + low) (n - 1)) ++ 1 ∷ []
 unfolding values
 values-low n = ap (λ p. map (λ r. 2 * r + 1) (powersDown 16 p (n - 1)) ++ 1 ∷ []) g-low
 
-value-front : (n p e : ℕ) → p + e + 2 ≡ n → placeValue n p ≡ 2 * zpower e + 1
+value-front : (n p e : ℕ) → p + e + 2 ≡ n → placeValue smallCode n p ≡ 2 * zpower e + 1
 value-front n p e q = ap (λ l. getD l p 0) (values-low n) ∙ front-at p e (n - 1) (omega arith)
 
-value-last : (n p : ℕ) → p + 1 ≡ n → placeValue n p ≡ 1
+value-last : (n p : ℕ) → p + 1 ≡ n → placeValue smallCode n p ≡ 1
 value-last n p q =
     let r : n - 1 ≡ p = omega arith in
     ap (λ l. getD l p 0) (values-low n)
@@ -155,7 +69,7 @@ value-additive r x y = lin-additive (tab 16 (λ i. power (r * i))) x y
 
 -- checks with this parity and these sums
 pub record HasSums (d o s1 s3 : ℕ) : Type 0 where
-  pub small : d < 131072
+  pub small : d < checksEnd smallCode
   pub parity : d % 2 ≡ o
   pub sums : Sums (d / 2) s1 s3
 
@@ -187,11 +101,11 @@ pub made-none : HasSums 0 0 0 0
 unfolding valueOf lin tab tabFrom power timesA poly iter turn _⊕_
 made-none = record { small = lit< tt; parity = refl; sums = (refl, refl) }
 
-pub made-last : (n p : ℕ) → p + 1 ≡ n → HasSums (placeValue n p) 1 0 0
+pub made-last : (n p : ℕ) → p + 1 ≡ n → HasSums (placeValue smallCode n p) 1 0 0
 unfolding valueOf lin tab tabFrom power timesA poly iter turn _⊕_
 made-last n p q = rw (value-last n p q) (record { small = lit< tt; parity = refl; sums = (refl, refl) })
 
-pub made-front : (n p e : ℕ) → p + e + 2 ≡ n → HasSums (placeValue n p) 1 (power e) (power (3 * e))
+pub made-front : (n p e : ℕ) → p + e + 2 ≡ n → HasSums (placeValue smallCode n p) 1 (power e) (power (3 * e))
 made-front n p e q =
     let z : zpower e < 2 ^ 16 = iter-lt 15 low-small e 1 (one-lt 15) in
     let d : (2 * zpower e + 1) / 2 ≡ zpower e = omega arith in

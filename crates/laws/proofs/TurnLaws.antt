@@ -15,8 +15,10 @@ use lib.ListN.{length}
 use lib.Seq.{ext-getD}
 use Rattle.algebra.specs.Words.{Word}
 use Rattle.algebra.proofs.TableLaws.{tab-length}
+use Rattle.rules.specs.Codes.{Code, lengthLimit}
 use Rattle.rules.specs.Frames.{Frame, row, cell, Square, badRows, badColumns, isFrame}
 use Rattle.rules.specs.Bits.{rowBytes, stride, squareBytes, bitAt, frameOf, bytesOf}
+use Rattle.rules.proofs.Laws.CodeLaws.{Sound}
 use Rattle.rules.proofs.Laws.Shape.{word-ext, row-tab, bit-past, transposed-square, transposed-cell, transposed-twice, frameOf-square, frameOf-cell}
 use Rattle.rules.proofs.Laws.BitLaws.{bytes-ext}
 use Rattle.rules.proofs.Laws.PackLaws.{bytesOf-length, bytesOf-byte, bytesOf-bit, frame-of-bytes}
@@ -110,7 +112,7 @@ worked-none n columns rule f s =
 
 -- ---- where a word's bits lie
 
--- as the code computes it, from the bytes of a row
+-- as the program computes it, from the bytes of a row
 pub start-down : (n : ℕ) (columns : Bool) (k : ℕ) → columns ≡ true → k ≡ startOf n columns k
 unfolding startOf
 start-down n columns k e = rw e
@@ -178,14 +180,15 @@ step-some n true h = omega arith
 step-some n false h = omega arith
 
 -- a word lies inside a buffer of a frame's size
-pub word-inside : (n : ℕ) (s : List ℕ) (columns : Bool) (k : ℕ) → Whole n s → k < n → Inside n s (startOf n columns k) (stepOf n columns)
-word-inside n s columns k w h =
-    let r : rowBytes n ≤ 32 = omega (arith, w .1) in
-    let m : n * rowBytes n ≤ 256 * 32 = mul-le-mul (w .1) r in (
+pub word-inside : (code : Code) (ok : Sound code) (n : ℕ) (s : List ℕ) (columns : Bool) (k : ℕ) → Whole code n s → k < n → Inside code n s (startOf n columns k) (stepOf n columns)
+word-inside code ok n s columns k w h =
+    let l : n ≤ lengthLimit = omega (arith, w .1, ok .not-long) in
+    let r : rowBytes n ≤ rowBytes lengthLimit = omega arith in
+    let m : n * rowBytes n ≤ lengthLimit * rowBytes lengthLimit = mul-le-mul l r in (
       w .0,
       w .1,
       omega (arith, w .2),
-      step-some n columns (omega arith),
+      step-some n columns (omega (arith, h)),
       place-inside n s columns k (n - 1) (w .2) h (omega arith),
     )
 
@@ -254,13 +257,13 @@ module _
 
 -- the next word put in place
 pub put-worked :
-    (n : ℕ) (s : List ℕ) (columns : Bool) (rule : Word → Word) (k : ℕ) (f : Frame) → Keeps n rule → Square n f → Whole n s → k < n
+    (code : Code) (n : ℕ) (s : List ℕ) (columns : Bool) (rule : Word → Word) (k : ℕ) (f : Frame) → Keeps n rule → Square n f → Whole code n s → k < n
     → s ≡ bytesOf n (worked n columns rule k f)
     → put n s (startOf n columns k) (stepOf n columns) (rule (row (turned n columns f) k)) ≡ bytesOf n (worked n columns rule (k + 1) f)
-put-worked n s columns rule k f r q w h e = packed ∙ ap (bytesOf n) framed
+put-worked code n s columns rule k f r q w h e = packed ∙ ap (bytesOf n) framed
   where
     some : 1 ≤ n
-    some = omega arith
+    some = omega (arith, h)
 
     u : Word
     u = rule (row (turned n columns f) k)
@@ -321,6 +324,6 @@ put-worked n s columns rule k f r q w h e = packed ∙ ap (bytesOf n) framed
 
 -- whether any word in either direction is not a codeword
 pub frame-counted :
-    (n : ℕ) (f : Frame) (a b : ℕ) → a ≡ badRows n (turned n false f) → b ≡ badRows n (turned n true f) → isFrame n f ≡ eqb (a + b) 0
+    (code : Code) (n : ℕ) (f : Frame) (a b : ℕ) → a ≡ badRows code n (turned n false f) → b ≡ badRows code n (turned n true f) → isFrame code n f ≡ eqb (a + b) 0
 unfolding isFrame badColumns turned
-frame-counted n f a b ha hb = rw (ha, hb)
+frame-counted code n f a b ha hb = rw (ha, hb)

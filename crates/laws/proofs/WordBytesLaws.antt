@@ -4,15 +4,18 @@ use mathlib.Core.Path.{_≡_, refl, sym, ap, _∙_}
 use mathlib.Core.Logic.{_≢_}
 use mathlib.Core.Bool.{true, false}
 use mathlib.Core.List.{List, []}
+use mathlib.Core.Option.{Option, some, none}
 use Prim.Native.Nat.{ℕ, _+_, _*_, _<_}
 use native.Mathlib.Decide.{decLt}
 use native.Mathlib.Omega.{arith}
 use lib.Dec.{eqb}
 use lib.ListN.{length}
 use Rattle.algebra.specs.Words.{Word}
-use Rattle.rules.specs.Words.{Answer, codeword, onePlace, twoPlaces, beyond, answer, mend}
+use Rattle.rules.specs.Codes.{Code}
+use Rattle.rules.specs.Words.{answer, mend}
 use Rattle.rules.specs.Bits.{rowBytes, stride, bitAt, wordOf, wordBytes}
 use Rattle.rules.specs.Numbers.{pick, outside, first, wordRefusals, wordRefusal, WordSaid, wordRefused, answered, wordNumber, wordSaid, wordOutput}
+use Rattle.rules.proofs.Laws.CodeLaws.{Sound}
 use Rattle.rules.proofs.Laws.Shape.{word-ext, bit-past, wordOf-length}
 use Rattle.rules.proofs.Laws.PackLaws.{wordBytes-length, wordBytes-byte, wordBytes-bit}
 use Rattle.rules.proofs.Laws.PassLaws.{mend-length}
@@ -23,11 +26,11 @@ use Rattle.laws.proofs.RefusalLaws.{inside, size-1, size-2, size-3}
 
 -- ---- in place
 
-pub word-fits : (n : ℕ) (s : List ℕ) (w : Word) → outside n ≡ false → s ≡ wordBytes n w → Inside n s 0 1
-word-fits n s w h e =
-    let i = inside n h in
+pub word-fits : (code : Code) (ok : Sound code) (n : ℕ) (s : List ℕ) (w : Word) → outside code n ≡ false → s ≡ wordBytes n w → Inside code n s 0 1
+word-fits code ok n s w h e =
+    let i = inside code n h in
     let l : length s ≡ rowBytes n = ap length e ∙ wordBytes-length n w in
-    (i .0, i .1, omega arith, omega arith, omega arith)
+    (i .0, i .1, omega (arith, ok .not-long), omega arith, omega (arith, ok .room))
 
 pub word-read : (n : ℕ) (w : Word) → length w ≡ n → wordAt n (wordBytes n w) 0 1 ≡ w
 word-read n w e =
@@ -57,67 +60,65 @@ word-put n w u ew eu =
 
 -- ---- decoding
 
-module _ (n : ℕ) (input output : List ℕ) where
+module _ (code : Code) (n : ℕ) (input output : List ℕ) where
   abbrev WordExit : WordSaid → List ℕ → Type 0
-  WordExit said out = (said ≡ wordSaid n input output) × (out ≡ wordOutput n input output)
+  WordExit said out = (said ≡ wordSaid code n input output) × (out ≡ wordOutput code n input output)
 
-  word-no : (r : ℕ) → r ≢ 0 → first (wordRefusals n input output) ≡ r → WordExit (wordRefused r) output
+  word-no : (r : ℕ) → r ≢ 0 → first (wordRefusals code n input output) ≡ r → WordExit (wordRefused r) output
   unfolding wordRefusal
   word-no r h e =
-      let q = word-refused n input output (λ z. h (sym e ∙ z)) in (ap wordRefused (sym e) ∙ sym (q .0), sym (q .1))
+      let q = word-refused code n input output (λ z. h (sym e ∙ z)) in (ap wordRefused (sym e) ∙ sym (q .0), sym (q .1))
 
-  pub word-1 : outside n ≡ true → WordExit (wordRefused 1) output
-  word-1 h = word-no 1 (λ e. omega arith) (size-1 n input (rowBytes n) output (rowBytes n) [] h)
+  pub word-1 : outside code n ≡ true → WordExit (wordRefused 1) output
+  word-1 h = word-no 1 (λ e. omega arith) (size-1 code n input (rowBytes n) output (rowBytes n) [] h)
 
-  pub word-2 : outside n ≡ false → length input ≢ rowBytes n → WordExit (wordRefused 2) output
-  word-2 h a = word-no 2 (λ e. omega arith) (size-2 n input (rowBytes n) output (rowBytes n) [] h a)
+  pub word-2 : outside code n ≡ false → length input ≢ rowBytes n → WordExit (wordRefused 2) output
+  word-2 h a = word-no 2 (λ e. omega arith) (size-2 code n input (rowBytes n) output (rowBytes n) [] h a)
 
-  pub word-3 : outside n ≡ false → length input ≡ rowBytes n → length output ≢ rowBytes n → WordExit (wordRefused 3) output
-  word-3 h a b = word-no 3 (λ e. omega arith) (size-3 n input (rowBytes n) output (rowBytes n) [] h a b)
+  pub word-3 : outside code n ≡ false → length input ≡ rowBytes n → length output ≢ rowBytes n → WordExit (wordRefused 3) output
+  word-3 h a b = word-no 3 (λ e. omega arith) (size-3 code n input (rowBytes n) output (rowBytes n) [] h a b)
 
-  module _ (f : Sized n input (rowBytes n) output (rowBytes n)) where
-    accepted : wordRefusal n input output ≡ 0
-    accepted = word-accepts n input output .1 f
+  module _ (f : Sized code n input (rowBytes n) output (rowBytes n)) where
+    accepted : wordRefusal code n input output ≡ 0
+    accepted = word-accepts code n input output .1 f
 
-    pub word-says : wordSaid n input output ≡ answered (answer n (wordOf n input 0))
+    pub word-says : wordSaid code n input output ≡ answered (answer code n (wordOf n input 0))
     unfolding wordSaid
     word-says =
-        at-zero (wordRefusal n input output) (answered (answer n (wordOf n input 0))) (wordRefused (wordRefusal n input output)) accepted
+        at-zero (wordRefusal code n input output) (answered (answer code n (wordOf n input 0))) (wordRefused (wordRefusal code n input output)) accepted
 
     hands :
-        wordOutput n input output
-        ≡ pick (eqb (wordNumber (answered (answer n (wordOf n input 0)))) 0) (wordBytes n (mend n (wordOf n input 0))) input
+        wordOutput code n input output
+        ≡ pick (eqb (wordNumber (answered (answer code n (wordOf n input 0)))) 0) (wordBytes n (mend code n (wordOf n input 0))) input
     unfolding wordOutput
     hands =
-        at-zero (wordRefusal n input output)
-        (pick (eqb (wordNumber (wordSaid n input output)) 0) (wordBytes n (mend n (wordOf n input 0))) input) output accepted
+        at-zero (wordRefusal code n input output)
+        (pick (eqb (wordNumber (wordSaid code n input output)) 0) (wordBytes n (mend code n (wordOf n input 0))) input) output accepted
         ∙ rw word-says
 
-    -- no codeword within two: what was received
-    pub word-kept : answer n (wordOf n input 0) ≡ beyond → input ≡ wordOutput n input output
+    -- no codeword is near enough: what was received
+    pub word-kept : answer code n (wordOf n input 0) ≡ none → input ≡ wordOutput code n input output
     word-kept e = sym (hands ∙ rw e)
 
     -- else the word, mended
-    pub word-handed : answer n (wordOf n input 0) ≢ beyond → wordBytes n (mend n (wordOf n input 0)) ≡ wordOutput n input output
-    word-handed k = go (answer n (wordOf n input 0)) k ∙ sym hands
+    pub word-handed : answer code n (wordOf n input 0) ≢ none → wordBytes n (mend code n (wordOf n input 0)) ≡ wordOutput code n input output
+    word-handed k = go (answer code n (wordOf n input 0)) k ∙ sym hands
       where
         go :
-            (a : Answer) → a ≢ beyond
-            → wordBytes n (mend n (wordOf n input 0)) ≡ pick (eqb (wordNumber (answered a)) 0) (wordBytes n (mend n (wordOf n input 0))) input
-        go codeword k = refl
-        go (onePlace p) k = refl
-        go (twoPlaces p q) k = refl
-        go beyond k = absurd (k refl)
+            (a : Option (List ℕ)) → a ≢ none
+            → wordBytes n (mend code n (wordOf n input 0)) ≡ pick (eqb (wordNumber (answered a)) 0) (wordBytes n (mend code n (wordOf n input 0))) input
+        go (some ps) k = refl
+        go none k = absurd (k refl)
 
 -- the word's own bytes s, read and mended in place
-module _ (n : ℕ) (input s : List ℕ) (copied : s ≡ wordBytes n (wordOf n input 0)) where
+module _ (code : Code) (n : ℕ) (input s : List ℕ) (copied : s ≡ wordBytes n (wordOf n input 0)) where
   read-back : wordAt n s 0 1 ≡ wordOf n input 0
   read-back = ap (λ (l : List ℕ). wordAt n l 0 1) copied ∙ word-read n (wordOf n input 0) (wordOf-length n input 0)
 
-  pub word-answer : answer n (wordAt n s 0 1) ≡ answer n (wordOf n input 0)
-  word-answer = ap (answer n) read-back
+  pub word-answer : answer code n (wordAt n s 0 1) ≡ answer code n (wordOf n input 0)
+  word-answer = ap (answer code n) read-back
 
-  pub word-mended : put n s 0 1 (mend n (wordAt n s 0 1)) ≡ wordBytes n (mend n (wordOf n input 0))
+  pub word-mended : put n s 0 1 (mend code n (wordAt n s 0 1)) ≡ wordBytes n (mend code n (wordOf n input 0))
   word-mended =
       let w : Word = wordOf n input 0 in
-      rw (read-back, copied) (word-put n w (mend n w) (wordOf-length n input 0) (mend-length n w ∙ wordOf-length n input 0))
+      rw (read-back, copied) (word-put n w (mend code n w) (wordOf-length n input 0) (mend-length code n w ∙ wordOf-length n input 0))

@@ -6,8 +6,8 @@ use lib.ListN.{length, getD, set}
 use Rattle.algebra.specs.Xor.{_⊕_}
 use Rattle.algebra.specs.Tables.{tab}
 use Rattle.algebra.specs.Words.{Word, bit}
-use Rattle.rules.specs.Words.{shortest, longest}
-use Rattle.rules.specs.Bits.{bitAt}
+use Rattle.rules.specs.Codes.{Code, lengthLimit}
+use Rattle.rules.specs.Bits.{squareBytes, bitAt}
 
 -- bit j of the word that starts at bit `start` and goes by `step`
 unfoldable pub bitsAt : List ℕ → ℕ → ℕ → ℕ → Bool
@@ -16,14 +16,17 @@ bitsAt s start step j = bitAt s (start + j * step)
 unfoldable pub wordAt : ℕ → List ℕ → ℕ → ℕ → Word
 wordAt n s start step = tab n (bitsAt s start step)
 
--- the bytes of the greatest frame
+-- the bytes of the longest frame that any code may have, and its bits, so that a step is smaller
 abbrev pub mostBytes : ℕ
-mostBytes = 8192
+mostBytes = squareBytes lengthLimit
 
--- a word of a permitted length lies within the buffer, which is no longer than the greatest frame; its bits differ in place
-abbrev pub Inside : ℕ → List ℕ → ℕ → ℕ → Type 0
-Inside n s start step =
-    (shortest ≤ n) × (n ≤ longest) × (length s ≤ mostBytes) × (1 ≤ step) × (start + (n - 1) * step < length s * 8)
+abbrev pub mostBits : ℕ
+mostBits = mostBytes * 8
+
+-- a word of a permitted length lies within the buffer, which is no longer than the longest frame; its bits differ in place
+abbrev pub Inside : Code → ℕ → List ℕ → ℕ → ℕ → Type 0
+Inside code n s start step =
+    (code .shortest ≤ n) × (n ≤ code .longest) × (length s ≤ mostBytes) × (1 ≤ step) × (start + (n - 1) * step < length s * 8)
 
 -- bit x negated
 unfoldable pub flipAt : List ℕ → ℕ → List ℕ

@@ -7,7 +7,8 @@ use lib.Dec.{ltb}
 use lib.ListN.{length, take}
 use Rattle.algebra.specs.Tables.{tab}
 use Rattle.algebra.specs.Words.{Word}
-use Rattle.rules.specs.Words.{shortest, longest, dataBits, encodeWord}
+use Rattle.rules.specs.Codes.{Code, dataBits, lengthLimit, radiusLimit}
+use Rattle.rules.specs.Words.{encodeWord}
 use Rattle.rules.specs.Frames.{Frame, row, cell, transposed}
 use Rattle.rules.specs.Bits.{stride, squareBytes, frameOf, bytesOf}
 
@@ -35,17 +36,21 @@ abbrev pub worked : ℕ → Bool → (Word → Word) → ℕ → Frame → Frame
 worked n columns rule k f = turned n columns (partly n rule k (turned n columns f))
 
 -- the word's data encoded anew
-abbrev pub completed : ℕ → Word → Word
-completed n w = encodeWord (take (dataBits n) w)
+abbrev pub completed : Code → ℕ → Word → Word
+completed code n w = encodeWord code (take (dataBits code n) w)
 
 -- a square of n rows, in which all but the upper left corner of m rows and m columns of f is zero
 unfoldable pub cornered : ℕ → ℕ → Frame → Frame
 cornered m n f = tab n (λ i. tab n (λ j. ltb i m && (ltb j m && cell f i j)))
 
 -- a buffer of a frame's size, for a permitted n
-abbrev pub Whole : ℕ → List ℕ → Type 0
-Whole n s = (shortest ≤ n) × (n ≤ longest) × (length s ≡ squareBytes n)
+abbrev pub Whole : Code → ℕ → List ℕ → Type 0
+Whole code n s = (code .shortest ≤ n) × (n ≤ code .longest) × (length s ≡ squareBytes n)
 
 -- and its spare bits are zero
-abbrev pub Ready : ℕ → List ℕ → Type 0
-Ready n s = Whole n s × (s ≡ bytesOf n (frameOf n s))
+abbrev pub Ready : Code → ℕ → List ℕ → Type 0
+Ready code n s = Whole code n s × (s ≡ bytesOf n (frameOf n s))
+
+-- a pass changes no more bits than this, whatever the code
+abbrev pub mostChanges : ℕ
+mostChanges = radiusLimit * lengthLimit

@@ -4,6 +4,7 @@ use mathlib.Core.List.{List}
 use Prim.Native.Nat.{ℕ, _+_, _*_, _<_}
 use lib.Dec.{eqb}
 use lib.ListN.{length}
+use Rattle.rules.specs.Codes.{smallCode}
 use Rattle.rules.specs.Numbers.{pick, wordSaid, wordOutput, rowPart}
 use Rattle.word.specs.declared.locate.Answer.{Answer}
 use Rattle.word.specs.declared.locate.Answer.the-variants.{Codeword, OnePlace, TwoPlaces, Beyond}
@@ -35,8 +36,8 @@ SmallSaid (Answered a) = SmallAnswer a
 
 abbrev pub DecodesWordPacked : ℕ → List ℕ → List ℕ → ℕ → List ℕ → Type 0
 DecodesWordPacked n received output r exit =
-    (r ≡ packedWord (saidOf (wordSaid n received output))) × (exit ≡ wordOutput n received output)
+    (r ≡ packedWord (saidOf (wordSaid smallCode n received output))) × (exit ≡ wordOutput smallCode n received output)
 
 abbrev pub CopiesRow : ℕ → List ℕ → ℕ → List ℕ → ℕ → List ℕ → Type 0
 CopiesRow n frame i part r exit =
-    (r ≡ length (rowPart n frame i)) × (exit ≡ pick (eqb (length (rowPart n frame i)) (length part)) (rowPart n frame i) part)
+    (r ≡ length (rowPart smallCode n frame i)) × (exit ≡ pick (eqb (length (rowPart smallCode n frame i)) (length part)) (rowPart smallCode n frame i) part)

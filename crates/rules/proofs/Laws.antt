@@ -4,7 +4,9 @@ pub mod BitLaws
 pub mod PackLaws
 -- The field
 pub mod FieldLaws
--- Words
+-- Codes and words
+pub mod CodeLaws
+pub mod SmallCode
 pub mod CheckLaws
 pub mod PowerSumLaws
 pub mod SearchLaws

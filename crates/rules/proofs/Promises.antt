@@ -7,6 +7,7 @@ pub mod Answers
 pub mod Encoding
 pub mod RoundTrip
 pub mod Passes
+pub mod CountBounds
 pub mod EntryRules
 pub mod Entries
 pub mod Determined
@@ -16,5 +17,7 @@ pub mod Packing
 pub mod RepairFrames
 pub mod Repair
 pub mod Limit
+-- All of it, of a code
+pub mod Promised
 -- The bench items
 pub mod Bench

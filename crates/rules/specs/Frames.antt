@@ -7,7 +7,8 @@ use lib.Dec.{eqb}
 use lib.ListN.{length, getD}
 use Rattle.algebra.specs.Tables.{tab, count}
 use Rattle.algebra.specs.Words.{Word, bit}
-use Rattle.rules.specs.Words.{dataBits, isCodeword, encodeWord}
+use Rattle.rules.specs.Codes.{Code, dataBits}
+use Rattle.rules.specs.Words.{isCodeword, encodeWord}
 
 -- a square of bits, row by row
 abbrev pub Frame : Type 0
@@ -30,24 +31,24 @@ unfoldable pub transposed : ℕ → Frame → Frame
 transposed n f = tab n (λ j. tab n (λ i. cell f i j))
 
 -- how many rows, and how many columns, are no codewords
-unfoldable pub badRows : ℕ → Frame → ℕ
-badRows n f = count n (λ i. not (isCodeword n (row f i)))
+unfoldable pub badRows : Code → ℕ → Frame → ℕ
+badRows code n f = count n (λ i. not (isCodeword code n (row f i)))
 
-unfoldable pub badColumns : ℕ → Frame → ℕ
-badColumns n f = badRows n (transposed n f)
+unfoldable pub badColumns : Code → ℕ → Frame → ℕ
+badColumns code n f = badRows code n (transposed n f)
 
 -- every row is a codeword, and so is every column
-unfoldable pub isFrame : ℕ → Frame → Bool
-isFrame n f = eqb (badRows n f + badColumns n f) 0
+unfoldable pub isFrame : Code → ℕ → Frame → Bool
+isFrame code n f = eqb (badRows code n f + badColumns code n f) 0
 
 -- the upper left k × k bits; those of a frame are its data
 unfoldable pub corner : ℕ → Frame → Frame
 corner k f = tab k (λ i. tab k (λ j. cell f i j))
 
 -- the frame of the data d: its k rows encoded, then each of the n columns that they make
-unfoldable pub rowsFirst : ℕ → Frame → Frame
-rowsFirst n d = transposed n (tab n (λ j. encodeWord (tab (dataBits n) (λ i. bit (encodeWord (row d i)) j))))
+unfoldable pub rowsFirst : Code → ℕ → Frame → Frame
+rowsFirst code n d = transposed n (tab n (λ j. encodeWord code (tab (dataBits code n) (λ i. bit (encodeWord code (row d i)) j))))
 
 -- the same with rows and columns exchanged: columns encoded, then rows
-unfoldable pub columnsFirst : ℕ → Frame → Frame
-columnsFirst n d = transposed n (rowsFirst n (transposed (dataBits n) d))
+unfoldable pub columnsFirst : Code → ℕ → Frame → Frame
+columnsFirst code n d = transposed n (rowsFirst code n (transposed (dataBits code n) d))

@@ -1,5 +1,6 @@
 -- The rules of docs/RULES.md as definitions, in its order.
 pub mod Field
+pub mod Codes
 pub mod Words
 pub mod Frames
 pub mod Bits

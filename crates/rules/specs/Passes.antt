@@ -5,19 +5,20 @@ use lib.Dec.{eqb, leb}
 use Rattle.algebra.specs.Tables.{tab, total}
 use Rattle.algebra.specs.Words.{differ}
 use Rattle.algebra.specs.Remainder.{isOdd}
+use Rattle.rules.specs.Codes.{Code}
 use Rattle.rules.specs.Words.{mend}
 use Rattle.rules.specs.Frames.{Frame, row, transposed, badRows, badColumns, isFrame}
 
 -- every row mended by itself, and every column
-unfoldable pub passRows : ℕ → Frame → Frame
-passRows n f = tab n (λ i. mend n (row f i))
+unfoldable pub passRows : Code → ℕ → Frame → Frame
+passRows code n f = tab n (λ i. mend code n (row f i))
 
-unfoldable pub passColumns : ℕ → Frame → Frame
-passColumns n f = transposed n (passRows n (transposed n f))
+unfoldable pub passColumns : Code → ℕ → Frame → Frame
+passColumns code n f = transposed n (passRows code n (transposed n f))
 
 -- pass p: rows if p is odd, columns if it is even
-unfoldable pub pass : ℕ → ℕ → Frame → Frame
-pass n p f = cond (isOdd p) (passRows n f) (passColumns n f)
+unfoldable pub pass : Code → ℕ → ℕ → Frame → Frame
+pass code n p f = cond (isOdd p) (passRows code n f) (passColumns code n f)
 
 -- in how many code bits two frames differ
 unfoldable pub differences : ℕ → Frame → Frame → ℕ
@@ -41,9 +42,9 @@ abbrev pub good : Ending → ℕ → ℕ → Frame → Outcome
 good e passes flips f = record { ending = e; passes = passes; flips = flips; rows = 0; columns = 0; last = f }
 
 -- stuck and spent
-abbrev pub bad : Ending → ℕ → ℕ → ℕ → Frame → Outcome
-bad e passes flips n f =
-    record { ending = e; passes = passes; flips = flips; rows = badRows n f; columns = badColumns n f; last = f }
+abbrev pub bad : Code → Ending → ℕ → ℕ → ℕ → Frame → Outcome
+bad code e passes flips n f =
+    record { ending = e; passes = passes; flips = flips; rows = badRows code n f; columns = badColumns code n f; last = f }
 
 -- pass p flipped nothing, and is not the first
 abbrev pub isStuck : ℕ → ℕ → Bool
@@ -54,19 +55,19 @@ abbrev pub counted : ℕ → Frame → ℕ → Frame → Frame → ℕ
 counted n received flips before now = flips + differences n before now
 
 -- the passes after the first `made`, with `left` of the allowance left: repaired is tested first, then stuck, then spent
-unfoldable pub passesFrom : ℕ → Frame → ℕ → ℕ → ℕ → Frame → Outcome
-passesFrom n received zero made flips f = bad spent made flips n f
-passesFrom n received (suc left) made flips f =
-    let h : Frame = pass n (suc made) f in
+unfoldable pub passesFrom : Code → ℕ → Frame → ℕ → ℕ → ℕ → Frame → Outcome
+passesFrom code n received zero made flips f = bad code spent made flips n f
+passesFrom code n received (suc left) made flips f =
+    let h : Frame = pass code n (suc made) f in
     let count : ℕ = counted n received flips f h in
-    elim (isFrame n h) [
+    elim (isFrame code n h) [
       | true ↦ good repaired (suc made) count h
       | false ↦ elim (isStuck (suc made) (differences n f h)) [
-        | true ↦ bad stuck (suc made) count n h
-        | false ↦ passesFrom n received left (suc made) count h
+        | true ↦ bad code stuck (suc made) count n h
+        | false ↦ passesFrom code n received left (suc made) count h
       ]
     ]
 
 -- clean if it is a frame as received, else what the passes come to
-unfoldable pub decoded : ℕ → ℕ → Frame → Outcome
-decoded n allowance f = elim (isFrame n f) [ true ↦ good clean 0 0 f | false ↦ passesFrom n f allowance 0 0 f ]
+unfoldable pub decoded : Code → ℕ → ℕ → Frame → Outcome
+decoded code n allowance f = elim (isFrame code n f) [ true ↦ good clean 0 0 f | false ↦ passesFrom code n f allowance 0 0 f ]

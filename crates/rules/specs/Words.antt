@@ -7,55 +7,60 @@ use Prim.Native.Nat.{ℕ, zero, suc, _+_, _*_, _-_, _%_}
 use lib.Dec.{eqb}
 use lib.ListN.{length, take}
 use Rattle.algebra.specs.Xor.{_⊕_}
-use Rattle.algebra.specs.Tables.{tab, ones}
+use Rattle.algebra.specs.Tables.{tab, num, ones}
 use Rattle.algebra.specs.Words.{Word, bit}
 use Rattle.algebra.specs.Remainder.{register, powersDown, isOdd, systematic}
-use Rattle.rules.specs.Field.{poly}
+use Rattle.rules.specs.Codes.{Code, radius}
 
--- the polynomial that divides every codeword: minimal₁ times minimal₃
-unfoldable pub g : ℕ
-g = poly (16 ∷ 14 ∷ 13 ∷ 11 ∷ 10 ∷ 9 ∷ 8 ∷ 6 ∷ 5 ∷ 1 ∷ 0 ∷ [])
+-- ---- Codewords
 
--- the lengths that a word may have
-abbrev pub shortest : ℕ
-shortest = 18
+-- how many of a word's n bits are coefficients of its polynomial: all but a parity bit
+abbrev pub frontBits : Code → ℕ → ℕ
+frontBits code n = n - num (code .extended)
 
-abbrev pub longest : ℕ
-longest = 256
+-- what the generator leaves of that polynomial; the first bit is the coefficient of the highest power
+unfoldable pub remainder : Code → ℕ → Word → ℕ
+remainder code n w = register (code .degree) (code .generator) 0 (take (frontBits code n) w)
 
--- the bits of a word that are no data: the remainder's 16 and the parity bit
-abbrev pub checkBits : ℕ
-checkBits = 17
+-- with a parity bit: the remainder, and behind it as the last digit whether the number of ones is odd; without: the remainder
+abbrev pub withParity : Bool → ℕ → ℕ → ℕ
+withParity true r o = 2 * r + o % 2
+withParity false r o = r
 
--- k: all others
-abbrev pub dataBits : ℕ → ℕ
-dataBits n = n - checkBits
+-- a word's checks, as one number
+unfoldable pub checks : Code → ℕ → Word → ℕ
+checks code n w = withParity (code .extended) (remainder code n w) (ones w)
 
--- what g leaves of the polynomial whose coefficients are all bits but the last, the highest power first
-unfoldable pub remainder : ℕ → Word → ℕ
-remainder n w = register 16 g 0 (take (n - 1) w)
-
--- the remainder, and behind it as the last digit whether the number of ones is odd
-unfoldable pub checks : ℕ → Word → ℕ
-checks n w = 2 * remainder n w + ones w % 2
-
--- no remainder, and an even number of ones
-unfoldable pub isCodeword : ℕ → Word → Bool
-isCodeword n w = eqb (checks n w) 0
+-- all checks are zero: no remainder and, with a parity bit, an even number of ones
+unfoldable pub isCodeword : Code → ℕ → Word → Bool
+isCodeword code n w = eqb (checks code n w) 0
 
 -- a codeword of n bits
-abbrev pub Codeword : ℕ → Word → Type 0
-Codeword n w = (length w ≡ n) × (isCodeword n w ≡ true)
+abbrev pub Codeword : Code → ℕ → Word → Type 0
+Codeword code n w = (length w ≡ n) × (isCodeword code n w ≡ true)
 
--- data, then the 16 bits that leave no remainder, then the bit that makes the ones even
-unfoldable pub encodeWord : Word → Word
-encodeWord u = let w : Word = systematic 16 g u in w ++ isOdd (ones w) ∷ []
+-- with a parity bit: the word, and behind it the bit that makes the ones even; without: the word
+abbrev pub andParity : Bool → Word → Word
+andParity true w = w ++ isOdd (ones w) ∷ []
+andParity false w = w
 
--- The value of a place: the checks of the word whose only one stands there. The parity bit, the last, has one too.
-unfoldable pub values : ℕ → List ℕ
-values n = map (λ r. 2 * r + 1) (powersDown 16 g (n - 1)) ++ 1 ∷ []
+-- data, then the bits that leave no remainder, then the parity bit
+unfoldable pub encodeWord : Code → Word → Word
+encodeWord code u = andParity (code .extended) (systematic (code .degree) (code .generator) u)
 
--- just e places, rising, from place p on, whose values ⊕ to s: the first such by its lowest place
+-- ---- The answer to a word
+
+-- with a parity bit: what each power leaves, with an odd last digit, and 1 for the parity bit; without: what each leaves
+abbrev pub placed : Bool → List ℕ → List ℕ
+placed true rs = map (λ r. 2 * r + 1) rs ++ 1 ∷ []
+placed false rs = rs
+
+-- the value of each place: the checks of the word whose only one stands there
+unfoldable pub values : Code → ℕ → List ℕ
+values code n = placed (code .extended) (powersDown (code .degree) (code .generator) (frontBits code n))
+
+-- just e places, rising, from place p on, whose values ⊕ to s: the first such by its lowest place. A single place is compared, which
+-- comes to the same and is quicker
 unfoldable pub exactly : ℕ → ℕ → List ℕ → ℕ → Option (List ℕ)
 exactly zero p vs s = elim (eqb s 0) [ true ↦ some [] | false ↦ none ]
 exactly (suc zero) p [] s = none
@@ -71,40 +76,15 @@ unfoldable pub within : ℕ → List ℕ → ℕ → Option (List ℕ)
 within zero vs s = exactly zero 0 vs s
 within (suc t) vs s = elim (within t vs s) [ some ps ↦ some ps | none ↦ exactly (suc t) 0 vs s ]
 
--- the places to be changed, two at most, or none where that takes more. Only the word's own n places are tried, and so none that
--- was cut away
-unfoldable pub nearest : ℕ → Word → Option (List ℕ)
-nearest n w = within 2 (values n) (checks n w)
-
--- the four answers
-pub data Answer : Type 0 where
-  -- the word is one
-  codeword : Answer
-  -- it is one after this place is changed
-  onePlace : ℕ → Answer
-  -- it is one after these two are changed, the lower first
-  twoPlaces : ℕ → ℕ → Answer
-  -- every codeword differs in three places or more
-  beyond : Answer
-
--- the places found, as one of the four
-unfoldable pub asAnswer : Option (List ℕ) → Answer
-asAnswer (some []) = codeword
-asAnswer (some (p ∷ [])) = onePlace p
-asAnswer (some (p ∷ q ∷ [])) = twoPlaces p q
-asAnswer (some (p ∷ q ∷ o ∷ ps)) = beyond
-asAnswer none = beyond
-
--- the answer to a word
-unfoldable pub answer : ℕ → Word → Answer
-answer n w = asAnswer (nearest n w)
+-- `some []`: it is a codeword. `some ps`: it is one after these places are changed, as many as the radius at most. `none`: that would
+-- take more. Only the word's own n places are tried, and so none that was cut away
+unfoldable pub answer : Code → ℕ → Word → Option (List ℕ)
+answer code n w = within (radius code) (values code n) (checks code n w)
 
 -- the places that an answer names
-abbrev pub places : Answer → List ℕ
-places codeword = []
-places (onePlace p) = p ∷ []
-places (twoPlaces p q) = p ∷ q ∷ []
-places beyond = []
+abbrev pub places : Option (List ℕ) → List ℕ
+places (some ps) = ps
+places none = []
 
 -- is j one of the places
 unfoldable pub isIn : ℕ → List ℕ → Bool
@@ -115,6 +95,6 @@ isIn j (p ∷ ps) = eqb j p || isIn j ps
 unfoldable pub changed : List ℕ → Word → Word
 changed ps w = tab (length w) (λ j. xor (isIn j ps) (bit w j))
 
--- the codeword that the answer leads to; a word that is beyond stays
-unfoldable pub mend : ℕ → Word → Word
-mend n w = changed (places (answer n w)) w
+-- the codeword that the answer leads to; a word with none near enough stays
+unfoldable pub mend : Code → ℕ → Word → Word
+mend code n w = changed (places (answer code n w)) w

@@ -4,7 +4,7 @@ use mathlib.Core.List.{List, [], _∷_, _++_, map}
 use Prim.Native.Nat.{ℕ, suc, _+_, _*_}
 use lib.Dec.{eqb, leb}
 use lib.ListN.{length, getD}
-use Rattle.rules.specs.Words.{longest}
+use Rattle.rules.specs.Codes.{smallCode}
 use Rattle.rules.specs.Passes.{clean, repaired, stuck, spent}
 use Rattle.rules.specs.Numbers.{pick, frameBytes, Decoded, refused, ended, Figures, figuresOf, decodeSaid}
 use Rattle.textrules.specs.Text.{Text, ascii, lf, tabulator, same, lines, wholeLines, fields, mostDigits, isDecimal, decimalValue, decimal, isHex, hexBytes}
@@ -17,7 +17,7 @@ header = ascii "frames\t1"
 
 -- the bytes of the greatest frame
 abbrev pub greatestFrame : ℕ
-greatestFrame = frameBytes longest
+greatestFrame = frameBytes (smallCode .longest)
 
 -- the characters of the longest line, without its LF: three numbers, each with a tab after it, and the greatest frame in hex
 abbrev pub longestLine : ℕ
@@ -95,7 +95,7 @@ recordText number d = reportLine (decimal number) (endingText d ∷ map decimal 
 -- what line k gives; the mended frame is handed to nobody, and its buffer is as long as the frame
 abbrev pub lineText : ℕ → Line → Text
 lineText k badLine = questioned k
-lineText k (aRecord number n allowance frame) = recordText number (decodeSaid n allowance frame frame)
+lineText k (aRecord number n allowance frame) = recordText number (decodeSaid smallCode n allowance frame frame)
 
 -- the lines from line k on
 unfoldable pub reportFrom : ℕ → List Text → Text

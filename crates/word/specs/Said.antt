@@ -1,18 +1,19 @@
 -- From what the rules say of a word to the code's enums, and the number of each of their cases.
+use mathlib.Core.List.{List, [], _∷_}
+use mathlib.Core.Option.{Option, some, none}
 use Prim.Native.Nat.{ℕ}
-use Rattle.rules.specs.Words as rules
 use Rattle.rules.specs.Numbers as numbers
 use Rattle.word.specs.declared.locate.Answer.{Answer}
 use Rattle.word.specs.declared.locate.Answer.the-variants.{Codeword, OnePlace, TwoPlaces, Beyond}
 use Rattle.word.specs.declared.decode.Said.{Said}
 use Rattle.word.specs.declared.decode.Said.the-variants.{Refused, Answered}
 
--- each answer by its own name, the lower place first
-abbrev pub answerOf : rules.Answer → Answer
-answerOf rules.codeword = Codeword
-answerOf (rules.onePlace p) = OnePlace p
-answerOf (rules.twoPlaces p q) = TwoPlaces p q
-answerOf rules.beyond = Beyond
+-- no place, one or two, the lower first, or none that would do. The small code's answers name no more than two
+abbrev pub answerOf : Option (List ℕ) → Answer
+answerOf (some []) = Codeword
+answerOf (some (p ∷ [])) = OnePlace p
+answerOf (some (p ∷ q ∷ ps)) = TwoPlaces p q
+answerOf none = Beyond
 
 -- a refusal with its number, or the answer
 abbrev pub saidOf : numbers.WordSaid → Said

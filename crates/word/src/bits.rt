@@ -3,7 +3,7 @@ ghost use mathlib.Core.Path.{_≡_};
 ghost use Prim.Native.Nat.{_+_, _*_, _<_, _≤_};
 ghost use lib.ListN.{length};
 ghost use Rattle.algebra.specs.Tables.{num};
-ghost use Rattle.rules.specs.Words.{longest};
+ghost use Rattle.rules.specs.Codes.{lengthLimit};
 ghost use Rattle.rules.specs.Bits.{bitAt, wordOf, byteOf};
 ghost use Rattle.laws.specs.InPlace.{mostBytes, flipAt};
 
@@ -25,7 +25,7 @@ pub(crate) fn flip(s: &mut [u8], x: usize)
 
 // Byte b of the word of m bits that starts at byte `at`: what lies past the word's end is zero.
 pub fn word_byte(m: usize, s: &[u8], at: usize, b: usize) -> u8
-    requires { ⌜ (m ≤ longest) × (at ≤ mostBytes) × (b ≤ longest) × (b * 8 < m → at + b < length (now s)) ⌝ }
+    requires { ⌜ (m ≤ lengthLimit) × (at ≤ mostBytes) × (b ≤ lengthLimit) × (b * 8 < m → at + b < length (now s)) ⌝ }
     ensures { λ r. ⌜ r ≡ byteOf (wordOf m (now (s .entry)) (at * 8)) b ⌝ }
 {
     if m <= b * 8 {

@@ -3,7 +3,8 @@ use crate::bits::bit;
 ghost use mathlib.Core.Path.{_≡_};
 ghost use Prim.Native.Nat.{_<_};
 ghost use Rattle.algebra.specs.Remainder.{shift, isOdd};
-ghost use Rattle.rules.specs.Words.{g, checks};
+ghost use Rattle.rules.specs.Codes.{smallCode};
+ghost use Rattle.rules.specs.Words.{checks};
 ghost use Rattle.laws.specs.InPlace.{wordAt, Inside};
 ghost use Rattle.laws.specs.Located.{remaindersEnd, checksEnd};
 
@@ -15,8 +16,8 @@ const REMAINDERS_END: u32 = 65536;
 
 // The remainder r with one more coefficient behind it.
 fn shifted(r: u32, b: u32) -> u32
-    requires { ⌜ (r < remaindersEnd) × (b < 2) ⌝ }
-    ensures { λ x. ⌜ (x ≡ shift 16 g r (isOdd b)) × (x < remaindersEnd) ⌝ }
+    requires { ⌜ (r < remaindersEnd smallCode) × (b < 2) ⌝ }
+    ensures { λ x. ⌜ (x ≡ shift (smallCode .degree) (smallCode .generator) r (isOdd b)) × (x < remaindersEnd smallCode) ⌝ }
 {
     let x = 2 * r + b;
     if x < REMAINDERS_END { x } else { x ^ G }
@@ -24,8 +25,8 @@ fn shifted(r: u32, b: u32) -> u32
 
 // The word starts at bit `start` and goes by `step`.
 pub fn checks(n: usize, s: &[u8], start: usize, step: usize) -> u32
-    requires { ⌜ Inside n (now s) start step ⌝ }
-    ensures { λ r. ⌜ (r ≡ checks n (wordAt n (now (s .entry)) start step)) × (r < checksEnd) ⌝ }
+    requires { ⌜ Inside smallCode n (now s) start step ⌝ }
+    ensures { λ r. ⌜ (r ≡ checks smallCode n (wordAt n (now (s .entry)) start step)) × (r < checksEnd smallCode) ⌝ }
 {
     let mut remainder: u32 = 0;
     let mut ones: u32 = 0;

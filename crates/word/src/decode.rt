@@ -10,7 +10,7 @@ use crate::sizes::row_bytes;
 ghost use mathlib.Core.Path.{_≡_};
 ghost use Prim.Native.Nat.{_≤_};
 ghost use lib.ListN.{length};
-ghost use Rattle.rules.specs.Words.{longest};
+ghost use Rattle.rules.specs.Codes.{lengthLimit};
 ghost use Rattle.rules.specs.Bits.{rowBytes, wordOf, wordBytes};
 ghost use Rattle.word.specs.Calls.{DecodesWord};
 
@@ -21,7 +21,7 @@ pub enum Said {
 
 // The word of n bits at the start of `from`, its spare bits zero.
 fn copy_word(n: usize, from: &[u8], to: &mut [u8])
-    requires { ⌜ (n ≤ longest) × (length (now from) ≡ rowBytes n) × (length (now to) ≡ rowBytes n) ⌝ }
+    requires { ⌜ (n ≤ lengthLimit) × (length (now from) ≡ rowBytes n) × (length (now to) ≡ rowBytes n) ⌝ }
     ensures { λ _. ⌜ now (to .exit) ≡ wordBytes n (wordOf n (now (from .entry)) 0) ⌝ }
 {
     for b in 0..to.len() {

@@ -8,7 +8,7 @@ ghost use mathlib.Core.Bool.{true, false};
 ghost use Prim.Native.Nat.{_+_, _≤_, _<_};
 ghost use Rattle.word.specs.Said.{answerOf};
 ghost use Rattle.word.specs.Locates.{Locates};
-ghost use Rattle.rules.specs.Words.{shortest, longest};
+ghost use Rattle.rules.specs.Codes.{smallCode};
 ghost use Rattle.laws.specs.Located.{remaindersEnd, checksEnd, located, Sums};
 ghost use Rattle.laws.specs.Search.{NoSingle, Single, Partner};
 
@@ -26,7 +26,7 @@ struct PowerSums {
 
 // The values of a remainder at a and at a^3.
 fn power_sums(remainder: u32) -> PowerSums
-    requires { ⌜ remainder < remaindersEnd ⌝ }
+    requires { ⌜ remainder < remaindersEnd smallCode ⌝ }
     ensures { λ r. ⌜ Sums remainder (r .s1) (r .s3) ⌝ }
 {
     let mut left = remainder;
@@ -44,7 +44,7 @@ fn power_sums(remainder: u32) -> PowerSums
 
 // The place whose own values these are, the parity bit's being zero; n where there is none.
 fn one_place(n: usize, s1: u8, s3: u8) -> usize
-    requires { ⌜ (shortest ≤ n) × (n ≤ longest) ⌝ }
+    requires { ⌜ (smallCode .shortest ≤ n) × (n ≤ smallCode .longest) ⌝ }
     ensures { λ p. ⌜ Single n s1 s3 p ⌝ }
 {
     if product(product(s1, s1), s1) != s3 {
@@ -62,7 +62,7 @@ fn one_place(n: usize, s1: u8, s3: u8) -> usize
 
 // An odd number of places: one, or more than two.
 fn odd_places(n: usize, s1: u8, s3: u8) -> Answer
-    requires { ⌜ (shortest ≤ n) × (n ≤ longest) ⌝ }
+    requires { ⌜ (smallCode .shortest ≤ n) × (n ≤ smallCode .longest) ⌝ }
     ensures { λ r. ⌜ Locates n true s1 s3 r ⌝ }
 {
     let p = one_place(n, s1, s3);
@@ -75,7 +75,7 @@ fn odd_places(n: usize, s1: u8, s3: u8) -> Answer
 
 // The place after p with which p gives the two sums; n where there is none.
 fn partner(n: usize, s1: u8, s3: u8, p: usize) -> usize
-    requires { ⌜ (n ≤ longest) × (p + 1 < n) ⌝ }
+    requires { ⌜ (n ≤ smallCode .longest) × (p + 1 < n) ⌝ }
     ensures { λ q. ⌜ Partner n s1 s3 p q ⌝ }
 {
     let e = n - 2 - p;
@@ -96,7 +96,7 @@ fn partner(n: usize, s1: u8, s3: u8, p: usize) -> usize
 
 // Two places, neither of them the parity bit: each tried in turn as the lower one.
 fn two_places(n: usize, s1: u8, s3: u8) -> Answer
-    requires { ⌜ (shortest ≤ n) × (n ≤ longest) × NoSingle n s1 s3 ⌝ }
+    requires { ⌜ (smallCode .shortest ≤ n) × (n ≤ smallCode .longest) × NoSingle n s1 s3 ⌝ }
     ensures { λ r. ⌜ Locates n false s1 s3 r ⌝ }
 {
     for p in 0..n - 1 {
@@ -110,7 +110,7 @@ fn two_places(n: usize, s1: u8, s3: u8) -> Answer
 
 // An even number of places: none, the parity bit and one other, two others, or more than two.
 fn even_places(n: usize, s1: u8, s3: u8) -> Answer
-    requires { ⌜ (shortest ≤ n) × (n ≤ longest) ⌝ }
+    requires { ⌜ (smallCode .shortest ≤ n) × (n ≤ smallCode .longest) ⌝ }
     ensures { λ r. ⌜ Locates n false s1 s3 r ⌝ }
 {
     let p = one_place(n, s1, s3);
@@ -125,8 +125,8 @@ fn even_places(n: usize, s1: u8, s3: u8) -> Answer
 }
 
 pub fn locate(n: usize, checks: u32) -> Answer
-    requires { ⌜ (shortest ≤ n) × (n ≤ longest) × (checks < checksEnd) ⌝ }
-    ensures { λ r. ⌜ r ≡ answerOf (located n checks) ⌝ }
+    requires { ⌜ (smallCode .shortest ≤ n) × (n ≤ smallCode .longest) × (checks < checksEnd smallCode) ⌝ }
+    ensures { λ r. ⌜ r ≡ answerOf (located smallCode n checks) ⌝ }
 {
     let sums = power_sums(checks / 2);
     if checks % 2 == 1 {

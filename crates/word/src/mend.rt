@@ -4,15 +4,16 @@ use crate::checks::checks;
 use crate::locate::Answer;
 use crate::locate::locate;
 ghost use mathlib.Core.Path.{_≡_};
+ghost use Rattle.rules.specs.Codes.{smallCode};
 ghost use Rattle.rules.specs.Words.{answer, mend};
 ghost use Rattle.laws.specs.InPlace.{wordAt, put, Inside};
 ghost use Rattle.word.specs.Said.{answerOf, changes};
 
 // Puts the codeword within two in the word's place, or leaves the word.
 pub fn mend(n: usize, s: &mut [u8], start: usize, step: usize) -> Answer
-    requires { ⌜ Inside n (now s) start step ⌝ }
-    ensures { λ r. ⌜ r ≡ answerOf (answer n (wordAt n (now (s .entry)) start step)) ⌝ }
-    ensures { λ _. ⌜ now (s .exit) ≡ put n (now (s .entry)) start step (mend n (wordAt n (now (s .entry)) start step)) ⌝ }
+    requires { ⌜ Inside smallCode n (now s) start step ⌝ }
+    ensures { λ r. ⌜ r ≡ answerOf (answer smallCode n (wordAt n (now (s .entry)) start step)) ⌝ }
+    ensures { λ _. ⌜ now (s .exit) ≡ put n (now (s .entry)) start step (mend smallCode n (wordAt n (now (s .entry)) start step)) ⌝ }
 {
     let answer = locate(n, checks(n, s, start, step));
     match answer {

@@ -1,7 +1,7 @@
 // The sizes that are allowed, and the bytes that they take.
 ghost use mathlib.Core.Path.{_≡_};
 ghost use Prim.Native.Nat.{_≤_};
-ghost use Rattle.rules.specs.Words.{longest};
+ghost use Rattle.rules.specs.Codes.{lengthLimit, smallCode};
 ghost use Rattle.rules.specs.Bits.{rowBytes};
 ghost use Rattle.rules.specs.Numbers.{outside};
 
@@ -13,7 +13,7 @@ pub const LONGEST: usize = 256;
 pub const CHECK_BITS: usize = 17;
 
 pub fn outside(n: usize) -> bool
-    ensures { λ r. ⌜ r ≡ outside n ⌝ }
+    ensures { λ r. ⌜ r ≡ outside smallCode n ⌝ }
 {
     if n < SHORTEST {
         return true;
@@ -22,7 +22,7 @@ pub fn outside(n: usize) -> bool
 }
 
 pub fn row_bytes(n: usize) -> usize
-    requires { ⌜ n ≤ longest ⌝ }
+    requires { ⌜ n ≤ lengthLimit ⌝ }
     ensures { λ r. ⌜ r ≡ rowBytes n ⌝ }
 {
     (n + 7) / 8

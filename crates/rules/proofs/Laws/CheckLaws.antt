@@ -1,37 +1,28 @@
 -- The checks of a word are the ⊕ of the values at its ones: what everything about words goes by.
 -- Assumes nothing.
-use mathlib.Core.Path.{_≡_, refl, sym, ap, ap₂, _∙_}
+use mathlib.Core.Path.{_≡_, sym, ap, ap₂, _∙_}
 use mathlib.Core.Bool.{Bool, true, false}
 use mathlib.Core.List.{List, [], _∷_, _++_, map}
-use Prim.Native.Nat.{ℕ, zero, suc, _+_, _*_, _-_, _%_, _^_, _≤_, _<_}
+use Prim.Native.Nat.{ℕ, zero, suc, _+_, _*_, _-_, _%_, _≤_, _<_}
+use native.Mathlib.Nat.{add-zero, zero-add}
 use native.Mathlib.Omega.{arith}
 use borrow.Author.Tests.{eqb-true, eq-eqb}
-use lib.Dec.{eqb, lit<}
-use lib.ListN.{length, take, getD, length-append, length-map}
-use lib.Seq.{take-suc, take-length, take-at, length-take-le}
+use lib.Dec.{eqb}
+use lib.ListN.{length, take, getD, replicate, length-append, length-map}
+use lib.Seq.{take-suc, take-length, length-take-le}
 use Rattle.algebra.specs.Xor.{_⊕_}
 use Rattle.algebra.specs.Tables.{tab, num, ones}
 use Rattle.algebra.specs.Words.{Word, bit, _⊻_, dot}
 use Rattle.algebra.specs.Remainder.{register, powersDown}
+use Rattle.algebra.proofs.Digits.{num-le}
 use Rattle.algebra.proofs.XorLaws.{⊕-zero}
 use Rattle.algebra.proofs.TableLaws.{tab-length}
 use Rattle.algebra.proofs.WordLaws.{dot-one, dot-⊻, dot-++, ones-++, ⊻-length}
 use Rattle.algebra.proofs.ParityLaws.{parity-add, pairs, dot-parity}
-use Rattle.algebra.proofs.RemainderLaws.{register-start, powersDown-length}
-use Rattle.rules.specs.Field.{poly}
-use Rattle.rules.specs.Words.{g, remainder, checks, isCodeword, values}
-
--- g without its highest term
-unfoldable pub low : ℕ
-low = g - 2 ^ 16
-
-pub low-small : low < 2 ^ 16
-unfolding low g poly
-low-small = lit< tt
-
-pub g-low : g ≡ 2 ^ 16 + low
-unfolding low g poly
-g-low = refl
+use Rattle.algebra.proofs.RemainderLaws.{ones-none}
+use Rattle.rules.specs.Codes.{Code}
+use Rattle.rules.specs.Words.{withParity, placed, frontBits, remainder, checks, isCodeword, values}
+use Rattle.rules.proofs.Laws.CodeLaws.{Sound, powers-length, register-dot, zeros-front}
 
 -- a word is all but its last bit, and that
 pub last-bit : (m : ℕ) (w : Word) → length w ≡ suc m → w ≡ take m w ++ bit w m ∷ []
@@ -47,75 +38,94 @@ pub ones-last : (u : Word) (b : Bool) → ones (u ++ b ∷ []) ≡ ones u + num 
 unfolding ones
 ones-last u b = ones-++ u (b ∷ []) ∙ (let e : ones u + (num b + 0) ≡ ones u + num b = omega arith in e)
 
-module _ (m : ℕ) where
-  front : List ℕ
-  front = powersDown 16 g m
+-- ---- with a parity bit behind, and without
 
-  front-length : length front ≡ m
-  unfolding front
-  front-length = rw g-low (powersDown-length 15 low low-small m)
+placed-length : (b : Bool) (rs : List ℕ) → length (placed b rs) ≡ length rs + num b
+placed-length true rs = length-append (map (λ r. 2 * r + 1) rs) (1 ∷ []) ∙ ap (λ l. l + 1) (length-map rs (λ r. 2 * r + 1))
+placed-length false rs = sym (add-zero (length rs))
 
-  values-is : values (suc m) ≡ map (λ r. 2 * r + 1) front ++ 1 ∷ []
-  unfolding values front
-  values-is = ap (λ l. map (λ r. 2 * r + 1) (powersDown 16 g l) ++ 1 ∷ []) (let e : suc m - 1 ≡ m = omega arith in e)
-
-  pub values-length : length (values (suc m)) ≡ suc m
-  values-length =
-      ap length values-is ∙ length-append (map (λ r. 2 * r + 1) front) (1 ∷ [])
-      ∙ ap (λ l. l + 1) (length-map front (λ r. 2 * r + 1) ∙ front-length) ∙ (let e : m + 1 ≡ suc m = omega arith in e)
-
-  -- the place values at the ones of u and of the last bit b
-  dot-values : (u : Word) (b : Bool) → length u ≡ m → dot (values (suc m)) (u ++ b ∷ []) ≡ 2 * dot front u + (ones u + num b) % 2
-  dot-values u b h =
-      ap (λ vs. dot vs (u ++ b ∷ [])) values-is
-      ∙ dot-++ (map (λ r. 2 * r + 1) front) (1 ∷ []) u (b ∷ []) (h ∙ sym (length-map front (λ r. 2 * r + 1) ∙ front-length))
-      ∙ ap₂ _⊕_ (dot-parity front u (h ∙ sym front-length)) (last-value b)
-      ∙ pairs (dot front u) 0 (ones u % 2) (num b % 2) (omega arith) (omega arith)
-      ∙ ap₂ (λ x y. 2 * x + y) (⊕-zero (dot front u)) (sym (parity-add (ones u) (num b)))
-
-  pub checks-split : (u : Word) (b : Bool) → length u ≡ m → checks (suc m) (u ++ b ∷ []) ≡ 2 * register 16 g 0 u + (ones u + num b) % 2
-  unfolding checks remainder
-  checks-split u b h =
-      ap₂ (λ v o. 2 * register 16 g 0 v + o % 2)
-      (ap (λ l. take l (u ++ b ∷ [])) (let e : suc m - 1 ≡ m = omega arith in e) ∙ take-at u (b ∷ []) m h)
-      (ones-last u b)
-
-  register-front : (u : Word) → length u ≡ m → register 16 g 0 u ≡ dot front u
-  unfolding front
-  register-front u h =
-      ap (λ p. register 16 p 0 u) g-low ∙ register-start 15 low low-small u
-      ∙ ap₂ (λ p l. dot (powersDown 16 p l) u) (sym g-low) h
-
-pub checks-dot : (n : ℕ) (w : Word) → 1 ≤ n → length w ≡ n → checks n w ≡ dot (values n) w
-checks-dot zero w h e = absurd (omega arith)
-checks-dot (suc m) w h e =
+-- the place values at the ones of a word
+dot-placed :
+    (b : Bool) (rs : List ℕ) (m : ℕ) (w : Word) → length rs ≡ m → length w ≡ m + num b
+    → dot (placed b rs) w ≡ withParity b (dot rs (take m w)) (ones w)
+dot-placed true rs m w hr hw =
     let u : Word = take m w in
+    let c : Bool = bit w m in
     let hu : length u ≡ m = length-take-le m w (omega arith) in
-    ap (checks (suc m)) (last-bit m w e) ∙ checks-split m u (bit w m) hu
-    ∙ ap (λ x. 2 * x + (ones u + num (bit w m)) % 2) (register-front m u hu)
-    ∙ sym (ap (dot (values (suc m))) (last-bit m w e) ∙ dot-values m u (bit w m) hu)
+    let s : w ≡ u ++ c ∷ [] = last-bit m w (omega arith) in
+    ap (dot (map (λ r. 2 * r + 1) rs ++ 1 ∷ [])) s
+    ∙ dot-++ (map (λ r. 2 * r + 1) rs) (1 ∷ []) u (c ∷ []) (hu ∙ sym (length-map rs (λ r. 2 * r + 1) ∙ hr))
+    ∙ ap₂ _⊕_ (dot-parity rs u (hu ∙ sym hr)) (last-value c)
+    ∙ pairs (dot rs u) 0 (ones u % 2) (num c % 2) (omega arith) (omega arith)
+    ∙ ap₂ (λ x y. 2 * x + y) (⊕-zero (dot rs u))
+    (sym (parity-add (ones u) (num c)) ∙ ap (λ o. o % 2) (sym (ap ones s ∙ ones-last u c)))
+dot-placed false rs m w hr hw =
+    let e : m ≡ length w = omega (arith, hw) in
+    ap (dot rs) (sym (ap (λ l. take l w) e ∙ take-length w))
 
--- the value of a place is the checks of the word whose only one stands there
-pub value-checks : (n p : ℕ) → p < n → getD (values n) p 0 ≡ checks n (tab n (λ j. eqb j p))
-value-checks zero p h = absurd (omega arith)
-value-checks (suc m) p h =
-    sym
-    (checks-dot (suc m) (tab (suc m) (λ j. eqb j p)) (omega arith) (tab-length (suc m) (λ j. eqb j p))
-    ∙ ap (λ l. dot (values (suc m)) (tab l (λ j. eqb j p))) (sym (values-length m))
-    ∙ dot-one (values (suc m)) p (omega (arith, values-length m)))
+-- ---- the checks
+
+-- all bits but the parity bit, and that
+pub front-and : (code : Code) (n : ℕ) → 1 ≤ n → frontBits code n + num (code .extended) ≡ n
+front-and code n h = omega (arith, num-le (code .extended))
+
+take-zeros : (z m : ℕ) (w : Word) → take (z + m) (replicate z false ++ w) ≡ replicate z false ++ take m w
+take-zeros zero m w = ap (λ i. take i w) (zero-add m)
+take-zeros (suc z) m w =
+    let e : suc z + m ≡ suc (z + m) = omega arith in
+    ap (λ i. take i (replicate (suc z) false ++ w)) e ∙ ap (λ v. false ∷ v) (take-zeros z m w)
+
+module _ (code : Code) (ok : Sound code) where
+  pub values-length : (n : ℕ) → 1 ≤ n → length (values code n) ≡ n
+  unfolding values
+  values-length n h =
+      placed-length (code .extended) (powersDown (code .degree) (code .generator) (frontBits code n))
+      ∙ ap (λ l. l + num (code .extended)) (powers-length code ok (frontBits code n)) ∙ front-and code n h
+
+  pub checks-dot : (n : ℕ) (w : Word) → 1 ≤ n → length w ≡ n → checks code n w ≡ dot (values code n) w
+  unfolding checks remainder values
+  checks-dot n w h e =
+      let m : ℕ = frontBits code n in
+      let hm : length w ≡ m + num (code .extended) = e ∙ sym (front-and code n h) in
+      let hu : length (take m w) ≡ m = length-take-le m w (omega arith) in
+      ap (λ r. withParity (code .extended) r (ones w))
+      (register-dot code ok (take m w) ∙ ap (λ l. dot (powersDown (code .degree) (code .generator) l) (take m w)) hu)
+      ∙ sym (dot-placed (code .extended) (powersDown (code .degree) (code .generator) m) m w (powers-length code ok m) hm)
+
+  -- the value of a place is the checks of the word whose only one stands there
+  pub value-checks : (n p : ℕ) → p < n → getD (values code n) p 0 ≡ checks code n (tab n (λ j. eqb j p))
+  value-checks n p h =
+      let long : length (values code n) ≡ n = values-length n (omega arith) in
+      sym
+      (checks-dot n (tab n (λ j. eqb j p)) (omega arith) (tab-length n (λ j. eqb j p))
+      ∙ ap (λ l. dot (values code n) (tab l (λ j. eqb j p))) (sym long)
+      ∙ dot-one (values code n) p (omega (arith, long)))
+
+  -- zeros in front change nothing
+  pub zeros-ahead : (n z : ℕ) (w : Word) → 1 ≤ n → checks code (z + n) (replicate z false ++ w) ≡ checks code n w
+  unfolding checks remainder
+  zeros-ahead n z w h =
+      let m : ℕ = frontBits code n in
+      let o : Word = replicate z false in
+      let q : frontBits code (z + n) ≡ z + m = omega (arith, front-and code n h, front-and code (z + n) (omega arith)) in
+      ap₂ (withParity (code .extended))
+      (ap (register (code .degree) (code .generator) 0) (ap (λ i. take i (o ++ w)) q ∙ take-zeros z m w)
+      ∙ zeros-front code ok z (take m w))
+      (ones-++ o w ∙ ap (λ p. p + ones w) (ones-none z) ∙ zero-add (ones w))
+
+  -- the checks of a difference
+  pub checks-⊻ :
+      (n : ℕ) (w u : Word) → 1 ≤ n → length w ≡ n → length u ≡ n → checks code n (w ⊻ u) ≡ checks code n w ⊕ checks code n u
+  checks-⊻ n w u h hw hu =
+      checks-dot n (w ⊻ u) h (⊻-length w u (hw ∙ sym hu) ∙ hw) ∙ dot-⊻ (values code n) w u (hw ∙ sym hu)
+      ∙ ap₂ _⊕_ (sym (checks-dot n w h hw)) (sym (checks-dot n u h hu))
 
 -- ---- codewords
 
-pub codeword-checks : (n : ℕ) (w : Word) → isCodeword n w ≡ true → checks n w ≡ 0
+pub codeword-checks : (code : Code) (n : ℕ) (w : Word) → isCodeword code n w ≡ true → checks code n w ≡ 0
 unfolding isCodeword
-codeword-checks n w h = eqb-true (checks n w) 0 h
+codeword-checks code n w h = eqb-true (checks code n w) 0 h
 
-pub checks-codeword : (n : ℕ) (w : Word) → checks n w ≡ 0 → isCodeword n w ≡ true
+pub checks-codeword : (code : Code) (n : ℕ) (w : Word) → checks code n w ≡ 0 → isCodeword code n w ≡ true
 unfolding isCodeword
-checks-codeword n w h = eq-eqb (checks n w) 0 h
-
--- the checks of a difference
-pub checks-⊻ : (n : ℕ) (w u : Word) → 1 ≤ n → length w ≡ n → length u ≡ n → checks n (w ⊻ u) ≡ checks n w ⊕ checks n u
-checks-⊻ n w u h hw hu =
-    checks-dot n (w ⊻ u) h (⊻-length w u (hw ∙ sym hu) ∙ hw) ∙ dot-⊻ (values n) w u (hw ∙ sym hu)
-    ∙ ap₂ _⊕_ (sym (checks-dot n w h hw)) (sym (checks-dot n u h hu))
+checks-codeword code n w h = eq-eqb (checks code n w) 0 h

@@ -8,6 +8,7 @@ use Rattle.algebra.specs.Tables.{num, ones, total}
 use Rattle.algebra.specs.Words.{Word, bit, _⊻_, differ}
 use Rattle.algebra.proofs.TableLaws.{tab-is, total-ext, total-swap, count-total}
 use Rattle.algebra.proofs.WordLaws.{⊻-length, ⊻-bit}
+use Rattle.rules.specs.Codes.{Code}
 use Rattle.rules.specs.Words.{mend}
 use Rattle.rules.specs.Frames.{Frame, row, cell, transposed, Square}
 use Rattle.rules.specs.Passes.{passRows, passColumns, differences}
@@ -43,18 +44,18 @@ differences-turned n f h sf sh =
     c i j = num (xor (cell f i j) (cell h i j))
 
 -- the bits that mending changes in word i of a frame
-abbrev pub flipsOf : ℕ → Frame → ℕ → ℕ
-flipsOf n g i = differ (row g i) (mend n (row g i))
+abbrev pub flipsOf : Code → ℕ → Frame → ℕ → ℕ
+flipsOf code n g i = differ (row g i) (mend code n (row g i))
 
-pub rows-flips : (n : ℕ) (f : Frame) → total n (flipsOf n f) ≡ differences n f (passRows n f)
+pub rows-flips : (code : Code) (n : ℕ) (f : Frame) → total n (flipsOf code n f) ≡ differences n f (passRows code n f)
 unfolding differences
-rows-flips n f =
-    total-ext n (flipsOf n f) (λ i. differ (row f i) (row (passRows n f) i))
-    (λ i h. ap (differ (row f i)) (sym (passRows-row n f i h)))
+rows-flips code n f =
+    total-ext n (flipsOf code n f) (λ i. differ (row f i) (row (passRows code n f) i))
+    (λ i h. ap (differ (row f i)) (sym (passRows-row code n f i h)))
 
-pub columns-flips : (n : ℕ) (f : Frame) → Square n f → total n (flipsOf n (transposed n f)) ≡ differences n f (passColumns n f)
+pub columns-flips : (code : Code) (n : ℕ) (f : Frame) → Square n f → total n (flipsOf code n (transposed n f)) ≡ differences n f (passColumns code n f)
 unfolding passColumns
-columns-flips n f s =
-    rows-flips n (transposed n f)
-    ∙ ap (differences n (transposed n f)) (sym (transposed-twice n (passRows n (transposed n f)) (passRows-square n (transposed n f) (transposed-square n f))))
-    ∙ sym (differences-turned n f (passColumns n f) s (passColumns-square n f))
+columns-flips code n f s =
+    rows-flips code n (transposed n f)
+    ∙ ap (differences n (transposed n f)) (sym (transposed-twice n (passRows code n (transposed n f)) (passRows-square code n (transposed n f) (transposed-square n f))))
+    ∙ sym (differences-turned n f (passColumns code n f) s (passColumns-square code n f))

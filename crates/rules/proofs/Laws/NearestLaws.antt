@@ -2,7 +2,7 @@
 -- few places never ⊕ to zero, nothing else says it.
 -- Assumes nothing.
 use mathlib.Core.Path.{_≡_, refl, sym, ap, subst, _∙_}
-use mathlib.Core.List.{List, []}
+use mathlib.Core.List.{List}
 use mathlib.Core.Option.{Option, some, none}
 use Prim.Native.Nat.{ℕ, _+_, _≤_, _<_}
 use native.Mathlib.Nat.{zero-add}
@@ -14,31 +14,39 @@ use Rattle.algebra.specs.Tables.{ones}
 use Rattle.algebra.specs.Words.{Word, _⊻_, differ, dot}
 use Rattle.algebra.proofs.XorLaws.{⊕-zero, ⊕-zero→≡, ≡→⊕-zero}
 use Rattle.algebra.proofs.WordLaws.{⊻-length, ⊻-cancel, ⊻-ones, differ-zero, differ-comm, dot-⊻}
-use Rattle.rules.specs.Words.{within, changed}
+use Rattle.rules.specs.Words.{within, places, changed}
 use Rattle.rules.proofs.Laws.SearchLaws.{placesFrom, places-length, Says, within-says}
 use Rattle.rules.proofs.Laws.PatternLaws.{Rising, places-rising, pattern, changed-pattern}
 
--- a codeword: its values ⊕ to zero
-abbrev pub Code : ℕ → List ℕ → Word → Type 0
-Code n vs c = (length c ≡ n) × (dot vs c ≡ 0)
+-- a codeword, by its values: they ⊕ to zero
+abbrev pub Vanishing : ℕ → List ℕ → Word → Type 0
+Vanishing n vs c = (length c ≡ n) × (dot vs c ≡ 0)
 
 -- the places found, rising, at most t, make a codeword; or no codeword lies within t
 abbrev pub Nearest : ℕ → ℕ → List ℕ → Word → Option (List ℕ) → Type 0
-Nearest n t vs w (some ps) = Rising 0 n ps × (length ps ≤ t) × Code n vs (changed ps w)
-Nearest n t vs w none = (c : Word) → Code n vs c → t < differ c w
-
--- the places of an answer; none where nothing was found
-abbrev pub listed : Option (List ℕ) → List ℕ
-listed (some ps) = ps
-listed none = []
+Nearest n t vs w (some ps) = Rising 0 n ps × (length ps ≤ t) × Vanishing n vs (changed ps w)
+Nearest n t vs w none = (c : Word) → Vanishing n vs c → t < differ c w
 
 -- a pattern of at most t ones with the word's values
 abbrev Fit : ℕ → ℕ → List ℕ → Word → Word → Type 0
 Fit n t vs w e = (length e ≡ n) × (ones e ≤ t) × (dot vs e ≡ dot vs w)
 
+-- at most 2 t places never ⊕ to zero
+abbrev pub Free : ℕ → ℕ → List ℕ → Type 0
+Free n t vs = (e : Word) → length e ≡ n → ones e ≤ t + t → dot vs e ≡ 0 → ones e ≡ 0
+
+-- so patterns of at most t ones with one value are the same
+pub same-pattern :
+    (n t : ℕ) (vs : List ℕ) → Free n t vs → (e u : Word) → length e ≡ n → length u ≡ n → ones e ≤ t → ones u ≤ t
+    → dot vs e ≡ dot vs u → e ≡ u
+same-pattern n t vs free e u le lu oe ou d =
+    let s : length e ≡ length u = le ∙ sym lu in
+    differ-zero e u s
+    (free (e ⊻ u) (⊻-length e u s ∙ le) (omega (arith, ⊻-ones e u)) (dot-⊻ vs e u s ∙ ≡→⊕-zero d))
+
 module _ (n t : ℕ) (vs : List ℕ) (w : Word) (l : length w ≡ n) where
   -- a pattern is a codeword within t
-  fit-near : (e : Word) → Fit n t vs w e → Code n vs (w ⊻ e) × (differ (w ⊻ e) w ≤ t)
+  fit-near : (e : Word) → Fit n t vs w e → Vanishing n vs (w ⊻ e) × (differ (w ⊻ e) w ≤ t)
   fit-near e (le, o, d) =
       let s : length w ≡ length e = l ∙ sym le in (
         (⊻-length w e s ∙ l, dot-⊻ vs w e s ∙ ≡→⊕-zero (sym d)),
@@ -46,7 +54,7 @@ module _ (n t : ℕ) (vs : List ℕ) (w : Word) (l : length w ≡ n) where
       )
 
   -- and the other way round
-  near-fit : (c : Word) → Code n vs c → differ c w ≤ t → Fit n t vs w (w ⊻ c)
+  near-fit : (c : Word) → Vanishing n vs c → differ c w ≤ t → Fit n t vs w (w ⊻ c)
   near-fit c (lc, z) d =
       let s : length w ≡ length c = l ∙ sym lc in
       (⊻-length w c s ∙ l, omega (arith, differ-comm w c), dot-⊻ vs w c s ∙ ap (λ x. dot vs w ⊕ x) z ∙ ⊕-zero (dot vs w))
@@ -88,13 +96,9 @@ module _ (n t : ℕ) (vs : List ℕ) (w : Word) (l : length w ≡ n) where
               | no d ↦ let f = near-fit c k (omega arith) in absurd (miss (w ⊻ c) (f .0 ∙ sym long) (f .1) (f .2))
             ]
 
-    -- few places never ⊕ to zero
-    module _ (free : (e : Word) → length e ≡ n → ones e ≤ t + t → dot vs e ≡ 0 → ones e ≡ 0) where
+    module _ (free : Free n t vs) where
       unique : (e e′ : Word) → Fit n t vs w e → Fit n t vs w e′ → e ≡ e′
-      unique e e′ (l₁, o₁, d₁) (l₂, o₂, d₂) =
-          let s : length e ≡ length e′ = l₁ ∙ sym l₂ in
-          differ-zero e e′ s
-          (free (e ⊻ e′) (⊻-length e e′ s ∙ l₁) (omega (arith, ⊻-ones e e′)) (dot-⊻ vs e e′ s ∙ ≡→⊕-zero (d₁ ∙ sym d₂)))
+      unique e e′ (l₁, o₁, d₁) (l₂, o₂, d₂) = same-pattern n t vs free e e′ l₁ l₂ o₁ o₂ (d₁ ∙ sym d₂)
 
       -- and nothing else is
       pub search-only : (o : Option (List ℕ)) → Nearest n t vs w o → o ≡ within t vs (dot vs w)
@@ -110,8 +114,8 @@ module _ (n t : ℕ) (vs : List ℕ) (w : Word) (l : length w ≡ n) where
           go none none h h′ = refl
 
       -- a codeword within t is what the changes make
-      pub search-mends : (c : Word) → Code n vs c → differ c w ≤ t → changed (listed (within t vs (dot vs w))) w ≡ c
+      pub search-mends : (c : Word) → Vanishing n vs c → differ c w ≤ t → changed (places (within t vs (dot vs w))) w ≡ c
       search-mends c k d =
           let f = near-fit c k d in
-          ap (λ o. changed (listed o) w) (sym (search-only (some (placesFrom 0 (w ⊻ c))) (fit-nearest (w ⊻ c) f)))
+          ap (λ o. changed (places o) w) (sym (search-only (some (placesFrom 0 (w ⊻ c))) (fit-nearest (w ⊻ c) f)))
           ∙ changed-pattern w (w ⊻ c) (f .0 ∙ sym l) ∙ ⊻-cancel w c (l ∙ sym (k .0))

@@ -9,7 +9,8 @@ use native.Mathlib.Omega.{arith}
 use lib.Dec.{eqb, leb}
 use lib.ListN.{length, drop}
 use borrow.Author.Tests.{eqb-true, eqb-false, eq-eqb, ne-eqb, leb-true, le-leb, not-false}
-use Rattle.rules.specs.Words.{dataBits, isIn, answer, mend}
+use Rattle.rules.specs.Codes.{Code, dataBits}
+use Rattle.rules.specs.Words.{isIn, answer, mend}
 use Rattle.rules.specs.Frames.{isFrame, corner, rowsFirst}
 use Rattle.rules.specs.Bits.{rowBytes, wordOf, frameOf, wordBytes, bytesOf, spareOnes}
 use Rattle.rules.specs.Passes.{Ending, clean, repaired, stuck, spent, Outcome, decoded}
@@ -80,20 +81,20 @@ true-test b = (not-false b, λ h. ap not h)
 
 -- ---- the checks that every entry point begins with
 
--- n is 18..256, the input has a bytes and the output b
-pub record Sized (n : ℕ) (input : List ℕ) (a : ℕ) (output : List ℕ) (b : ℕ) : Type 0 where
-  pub from : 18 ≤ n
-  pub upTo : n ≤ 256
+-- n is in range, the input has a bytes and the output b
+pub record Sized (code : Code) (n : ℕ) (input : List ℕ) (a : ℕ) (output : List ℕ) (b : ℕ) : Type 0 where
+  pub from : code .shortest ≤ n
+  pub upTo : n ≤ code .longest
   pub taken : length input ≡ a
   pub lent : length output ≡ b
 
 sized :
-    (n : ℕ) (input : List ℕ) (a : ℕ) (output : List ℕ) (b : ℕ) (later : RefusalList)
-    → Clear (sizeRefusals n input a output b later) ↔ (Sized n input a output b × Clear later)
-sized n input a output b later = (
+    (code : Code) (n : ℕ) (input : List ℕ) (a : ℕ) (output : List ℕ) (b : ℕ) (later : RefusalList)
+    → Clear (sizeRefusals code n input a output b later) ↔ (Sized code n input a output b × Clear later)
+sized code n input a output b later = (
   λ c.
-      let r = range-test 18 256 n .0 (c .0) in
-      let f : Sized n input a output b =
+      let r = range-test (code .shortest) (code .longest) n .0 (c .0) in
+      let f : Sized code n input a output b =
       record {
         from = r .0;
         upTo = r .1;
@@ -103,7 +104,7 @@ sized n input a output b later = (
       (f, c .1 .1 .1),
   λ p.
       let f = p .0 in (
-        range-test 18 256 n .1 (f .from, f .upTo),
+        range-test (code .shortest) (code .longest) n .1 (f .from, f .upTo),
         (equal-test (length input) a .1 (f .taken), (equal-test (length output) b .1 (f .lent), p .1)),
       ),
 )
@@ -115,39 +116,39 @@ alone t r h = (λ c. h .0 (c .0), λ x. (h .1 x, tt))
 -- ---- when each entry point accepts
 
 pub encode-accepts :
-    (n : ℕ) (input output : List ℕ)
-    → (encodeNumber n input output ≡ 0) ↔ (Sized n input (dataBytes n) output (frameBytes n) × (spareOnes (dataBits n) input ≡ 0))
+    (code : Code) (n : ℕ) (input output : List ℕ)
+    → (encodeNumber code n input output ≡ 0) ↔ (Sized code n input (dataBytes code n) output (frameBytes n) × (spareOnes (dataBits code n) input ≡ 0))
 unfolding encodeNumber allIn
-encode-accepts n input output =
-    Iff·trans (first-clear (encodeRefusals n input output) refl)
-    (Iff·trans (sized n input (dataBytes n) output (frameBytes n) (drop 3 (encodeRefusals n input output)))
-    (Iff·and Iff·rfl (alone (not (eqb (spareOnes (dataBits n) input) 0)) 5 (equal-test (spareOnes (dataBits n) input) 0))))
+encode-accepts code n input output =
+    Iff·trans (first-clear (encodeRefusals code n input output) refl)
+    (Iff·trans (sized code n input (dataBytes code n) output (frameBytes n) (drop 3 (encodeRefusals code n input output)))
+    (Iff·and Iff·rfl (alone (not (eqb (spareOnes (dataBits code n) input) 0)) 5 (equal-test (spareOnes (dataBits code n) input) 0))))
 
 pub read-accepts :
-    (n : ℕ) (input output : List ℕ)
-    → (readNumber n input output ≡ 0) ↔ (Sized n input (frameBytes n) output (dataBytes n) × (isFrame n (frameOf n input) ≡ true))
+    (code : Code) (n : ℕ) (input output : List ℕ)
+    → (readNumber code n input output ≡ 0) ↔ (Sized code n input (frameBytes n) output (dataBytes code n) × (isFrame code n (frameOf n input) ≡ true))
 unfolding readNumber allIn
-read-accepts n input output =
-    Iff·trans (first-clear (readRefusals n input output) refl)
-    (Iff·trans (sized n input (frameBytes n) output (dataBytes n) (drop 3 (readRefusals n input output)))
-    (Iff·and Iff·rfl (alone (not (isFrame n (frameOf n input))) 6 (true-test (isFrame n (frameOf n input))))))
+read-accepts code n input output =
+    Iff·trans (first-clear (readRefusals code n input output) refl)
+    (Iff·trans (sized code n input (frameBytes n) output (dataBytes code n) (drop 3 (readRefusals code n input output)))
+    (Iff·and Iff·rfl (alone (not (isFrame code n (frameOf n input))) 6 (true-test (isFrame code n (frameOf n input))))))
 
 pub decode-accepts :
-    (n allowance : ℕ) (input output : List ℕ)
-    → (decodeRefusal n allowance input output ≡ 0)
-    ↔ (Sized n input (frameBytes n) output (frameBytes n) × ((1 ≤ allowance) × (allowance ≤ mostAllowed)))
+    (code : Code) (n allowance : ℕ) (input output : List ℕ)
+    → (decodeRefusal code n allowance input output ≡ 0)
+    ↔ (Sized code n input (frameBytes n) output (frameBytes n) × ((1 ≤ allowance) × (allowance ≤ mostAllowed)))
 unfolding decodeRefusal allIn
-decode-accepts n allowance input output =
-    Iff·trans (first-clear (decodeRefusals n allowance input output) refl)
-    (Iff·trans (sized n input (frameBytes n) output (frameBytes n) (drop 3 (decodeRefusals n allowance input output)))
+decode-accepts code n allowance input output =
+    Iff·trans (first-clear (decodeRefusals code n allowance input output) refl)
+    (Iff·trans (sized code n input (frameBytes n) output (frameBytes n) (drop 3 (decodeRefusals code n allowance input output)))
     (Iff·and Iff·rfl (alone (notAllowed allowance) 4 (range-test 1 mostAllowed allowance))))
 
 pub word-accepts :
-    (n : ℕ) (input output : List ℕ) → (wordRefusal n input output ≡ 0) ↔ Sized n input (rowBytes n) output (rowBytes n)
+    (code : Code) (n : ℕ) (input output : List ℕ) → (wordRefusal code n input output ≡ 0) ↔ Sized code n input (rowBytes n) output (rowBytes n)
 unfolding wordRefusal allIn
-word-accepts n input output =
-    Iff·trans (first-clear (wordRefusals n input output) refl)
-    (Iff·trans (sized n input (rowBytes n) output (rowBytes n) []) (λ h. h .0, λ f. (f, tt)))
+word-accepts code n input output =
+    Iff·trans (first-clear (wordRefusals code n input output) refl)
+    (Iff·trans (sized code n input (rowBytes n) output (rowBytes n) []) (λ h. h .0, λ f. (f, tt)))
 
 -- ---- what is said or written, by the number
 
@@ -167,35 +168,35 @@ at-either P r x y h k = go (eqb r 0) refl
 
 -- ---- a refusal leaves the output as it was
 
-pub encode-refused : (n : ℕ) (input output : List ℕ) → encodeNumber n input output ≢ 0 → encodeOutput n input output ≡ output
+pub encode-refused : (code : Code) (n : ℕ) (input output : List ℕ) → encodeNumber code n input output ≢ 0 → encodeOutput code n input output ≡ output
 unfolding encodeOutput
-encode-refused n input output h =
-    at-other (encodeNumber n input output) (bytesOf n (rowsFirst n (frameOf (dataBits n) input))) output h
+encode-refused code n input output h =
+    at-other (encodeNumber code n input output) (bytesOf n (rowsFirst code n (frameOf (dataBits code n) input))) output h
 
-pub read-refused : (n : ℕ) (input output : List ℕ) → readNumber n input output ≢ 0 → readOutput n input output ≡ output
+pub read-refused : (code : Code) (n : ℕ) (input output : List ℕ) → readNumber code n input output ≢ 0 → readOutput code n input output ≡ output
 unfolding readOutput
-read-refused n input output h =
-    at-other (readNumber n input output) (bytesOf (dataBits n) (corner (dataBits n) (frameOf n input))) output h
+read-refused code n input output h =
+    at-other (readNumber code n input output) (bytesOf (dataBits code n) (corner (dataBits code n) (frameOf n input))) output h
 
 pub decode-refused :
-    (n allowance : ℕ) (input output : List ℕ) → decodeRefusal n allowance input output ≢ 0
-    → (decodeSaid n allowance input output ≡ refused (decodeRefusal n allowance input output))
-    × (decodeOutput n allowance input output ≡ output)
+    (code : Code) (n allowance : ℕ) (input output : List ℕ) → decodeRefusal code n allowance input output ≢ 0
+    → (decodeSaid code n allowance input output ≡ refused (decodeRefusal code n allowance input output))
+    × (decodeOutput code n allowance input output ≡ output)
 unfolding decodeSaid decodeOutput
-decode-refused n allowance input output h =
-    let r : ℕ = decodeRefusal n allowance input output in
-    let o : Outcome = decoded n allowance (frameOf n input) in
+decode-refused code n allowance input output h =
+    let r : ℕ = decodeRefusal code n allowance input output in
+    let o : Outcome = decoded code n allowance (frameOf n input) in
     (at-other r (told o) (refused r) h, at-other r (handedOut n input o) output h)
 
 pub word-refused :
-    (n : ℕ) (input output : List ℕ) → wordRefusal n input output ≢ 0
-    → (wordSaid n input output ≡ wordRefused (wordRefusal n input output)) × (wordOutput n input output ≡ output)
+    (code : Code) (n : ℕ) (input output : List ℕ) → wordRefusal code n input output ≢ 0
+    → (wordSaid code n input output ≡ wordRefused (wordRefusal code n input output)) × (wordOutput code n input output ≡ output)
 unfolding wordSaid wordOutput
-word-refused n input output h =
-    let r : ℕ = wordRefusal n input output in
-    let w : List ℕ = wordBytes n (mend n (wordOf n input 0)) in (
-      at-other r (answered (answer n (wordOf n input 0))) (wordRefused r) h,
-      at-other r (pick (eqb (wordNumber (wordSaid n input output)) 0) w input) output h,
+word-refused code n input output h =
+    let r : ℕ = wordRefusal code n input output in
+    let w : List ℕ = wordBytes n (mend code n (wordOf n input 0)) in (
+      at-other r (answered (answer code n (wordOf n input 0))) (wordRefused r) h,
+      at-other r (pick (eqb (wordNumber (wordSaid code n input output)) 0) w input) output h,
     )
 
 -- a success hands out the last frame, another ending what was received

@@ -6,6 +6,7 @@ use Prim.Native.Nat.{ℕ, suc, _<_}
 use lib.ListN.{length}
 use Rattle.algebra.specs.Words.{Word}
 use Rattle.algebra.proofs.TableLaws.{tab-length}
+use Rattle.rules.specs.Codes.{Code}
 use Rattle.rules.specs.Words.{answer, places, mend}
 use Rattle.rules.specs.Frames.{Frame, Square, row, transposed, isFrame}
 use Rattle.rules.specs.Passes.{
@@ -30,50 +31,50 @@ use Rattle.rules.proofs.Laws.PatternLaws.{changed-length}
 
 -- ---- the start
 
-module _ (n a : ℕ) (f : Frame) where
+module _ (code : Code) (n a : ℕ) (f : Frame) where
   abbrev begun : Bool → Outcome
   begun true = good clean 0 0 f
-  begun false = passesFrom n f a 0 0 f
+  begun false = passesFrom code n f a 0 0 f
 
-  begins : decoded n a f ≡ begun (isFrame n f)
+  begins : decoded code n a f ≡ begun (isFrame code n f)
   unfolding decoded
-  begins = go (isFrame n f)
+  begins = go (isFrame code n f)
     where
-      go : (b : Bool) → elim b as (λ x. Outcome) [ true ↦ good clean 0 0 f | false ↦ passesFrom n f a 0 0 f ] ≡ begun b
+      go : (b : Bool) → elim b as (λ x. Outcome) [ true ↦ good clean 0 0 f | false ↦ passesFrom code n f a 0 0 f ] ≡ begun b
       go true = refl
       go false = refl
 
-  pub decoded-clean : isFrame n f ≡ true → decoded n a f ≡ good clean 0 0 f
+  pub decoded-clean : isFrame code n f ≡ true → decoded code n a f ≡ good clean 0 0 f
   decoded-clean h = begins ∙ ap begun h
 
-  pub decoded-passes : isFrame n f ≡ false → decoded n a f ≡ passesFrom n f a 0 0 f
+  pub decoded-passes : isFrame code n f ≡ false → decoded code n a f ≡ passesFrom code n f a 0 0 f
   decoded-passes h = begins ∙ ap begun h
 
 -- ---- after a pass: the first of the three endings that holds, or one more pass
 
-module _ (n : ℕ) (received : Frame) (left made flips : ℕ) (f : Frame) where
+module _ (code : Code) (n : ℕ) (received : Frame) (left made flips : ℕ) (f : Frame) where
   abbrev after : Frame
-  after = pass n (suc made) f
+  after = pass code n (suc made) f
 
   abbrev changes : ℕ
   changes = differences n f after
 
   abbrev chosen : Bool → Bool → Outcome
   chosen true s = good repaired (suc made) (counted n received flips f after) after
-  chosen false true = bad stuck (suc made) (counted n received flips f after) n after
-  chosen false false = passesFrom n received left (suc made) (counted n received flips f after) after
+  chosen false true = bad code stuck (suc made) (counted n received flips f after) n after
+  chosen false false = passesFrom code n received left (suc made) (counted n received flips f after) after
 
-  steps : passesFrom n received (suc left) made flips f ≡ chosen (isFrame n after) (isStuck (suc made) changes)
+  steps : passesFrom code n received (suc left) made flips f ≡ chosen (isFrame code n after) (isStuck (suc made) changes)
   unfolding passesFrom
-  steps = go (isFrame n after) (isStuck (suc made) changes)
+  steps = go (isFrame code n after) (isStuck (suc made) changes)
     where
       go :
           (b s : Bool)
           → elim b as (λ x. Outcome) [
             | true ↦ good repaired (suc made) (counted n received flips f after) after
             | false ↦ elim s as (λ x. Outcome) [
-              | true ↦ bad stuck (suc made) (counted n received flips f after) n after
-              | false ↦ passesFrom n received left (suc made) (counted n received flips f after) after
+              | true ↦ bad code stuck (suc made) (counted n received flips f after) n after
+              | false ↦ passesFrom code n received left (suc made) (counted n received flips f after) after
             ]
           ]
           ≡ chosen b s
@@ -81,57 +82,57 @@ module _ (n : ℕ) (received : Frame) (left made flips : ℕ) (f : Frame) where
       go false true = refl
       go false false = refl
 
-  pub step-repaired : isFrame n after ≡ true → passesFrom n received (suc left) made flips f ≡ good repaired (suc made) (counted n received flips f after) after
+  pub step-repaired : isFrame code n after ≡ true → passesFrom code n received (suc left) made flips f ≡ good repaired (suc made) (counted n received flips f after) after
   step-repaired h = steps ∙ ap (λ b. chosen b (isStuck (suc made) changes)) h
 
   pub step-stuck :
-      isFrame n after ≡ false → isStuck (suc made) changes ≡ true
-      → passesFrom n received (suc left) made flips f ≡ bad stuck (suc made) (counted n received flips f after) n after
+      isFrame code n after ≡ false → isStuck (suc made) changes ≡ true
+      → passesFrom code n received (suc left) made flips f ≡ bad code stuck (suc made) (counted n received flips f after) n after
   step-stuck h s = steps ∙ ap₂ chosen h s
 
   pub step-on :
-      isFrame n after ≡ false → isStuck (suc made) changes ≡ false
-      → passesFrom n received (suc left) made flips f ≡ passesFrom n received left (suc made) (counted n received flips f after) after
+      isFrame code n after ≡ false → isStuck (suc made) changes ≡ false
+      → passesFrom code n received (suc left) made flips f ≡ passesFrom code n received left (suc made) (counted n received flips f after) after
   step-on h s = steps ∙ ap₂ chosen h s
 
-pub step-spent : (n : ℕ) (received : Frame) (made flips : ℕ) (f : Frame) → passesFrom n received 0 made flips f ≡ bad spent made flips n f
+pub step-spent : (code : Code) (n : ℕ) (received : Frame) (made flips : ℕ) (f : Frame) → passesFrom code n received 0 made flips f ≡ bad code spent made flips n f
 unfolding passesFrom
-step-spent n received made flips f = refl
+step-spent code n received made flips f = refl
 
 -- ---- which way a pass goes
 
-pub pass-one : (n : ℕ) (f : Frame) → pass n 1 f ≡ passRows n f
+pub pass-one : (code : Code) (n : ℕ) (f : Frame) → pass code n 1 f ≡ passRows code n f
 unfolding pass
-pass-one n f = refl
+pass-one code n f = refl
 
-pub pass-two : (n : ℕ) (f : Frame) → pass n 2 f ≡ passColumns n f
+pub pass-two : (code : Code) (n : ℕ) (f : Frame) → pass code n 2 f ≡ passColumns code n f
 unfolding pass
-pass-two n f = refl
+pass-two code n f = refl
 
 -- ---- a pass keeps the shape
 
-pub mend-length : (n : ℕ) (w : Word) → length (mend n w) ≡ length w
+pub mend-length : (code : Code) (n : ℕ) (w : Word) → length (mend code n w) ≡ length w
 unfolding mend
-mend-length n w = changed-length (places (answer n w)) w
+mend-length code n w = changed-length (places (answer code n w)) w
 
-pub passRows-row : (n : ℕ) (f : Frame) (i : ℕ) → i < n → row (passRows n f) i ≡ mend n (row f i)
+pub passRows-row : (code : Code) (n : ℕ) (f : Frame) (i : ℕ) → i < n → row (passRows code n f) i ≡ mend code n (row f i)
 unfolding passRows
-passRows-row n f i h = row-tab n (λ i. mend n (row f i)) i h
+passRows-row code n f i h = row-tab n (λ i. mend code n (row f i)) i h
 
-pub passRows-square : (n : ℕ) (f : Frame) → Square n f → Square n (passRows n f)
+pub passRows-square : (code : Code) (n : ℕ) (f : Frame) → Square n f → Square n (passRows code n f)
 unfolding passRows
-passRows-square n f s = (
-  tab-length n (λ i. mend n (row f i)),
-  λ i h. ap length (passRows-row n f i h) ∙ mend-length n (row f i) ∙ s .1 i h,
+passRows-square code n f s = (
+  tab-length n (λ i. mend code n (row f i)),
+  λ i h. ap length (passRows-row code n f i h) ∙ mend-length code n (row f i) ∙ s .1 i h,
 )
 
-pub passColumns-row : (n : ℕ) (f : Frame) (j : ℕ) → j < n → row (transposed n (passColumns n f)) j ≡ mend n (row (transposed n f) j)
+pub passColumns-row : (code : Code) (n : ℕ) (f : Frame) (j : ℕ) → j < n → row (transposed n (passColumns code n f)) j ≡ mend code n (row (transposed n f) j)
 unfolding passColumns
-passColumns-row n f j h =
+passColumns-row code n f j h =
     ap (λ (x : Frame). row x j)
-    (transposed-twice n (passRows n (transposed n f)) (passRows-square n (transposed n f) (transposed-square n f)))
-    ∙ passRows-row n (transposed n f) j h
+    (transposed-twice n (passRows code n (transposed n f)) (passRows-square code n (transposed n f) (transposed-square n f)))
+    ∙ passRows-row code n (transposed n f) j h
 
-pub passColumns-square : (n : ℕ) (f : Frame) → Square n (passColumns n f)
+pub passColumns-square : (code : Code) (n : ℕ) (f : Frame) → Square n (passColumns code n f)
 unfolding passColumns
-passColumns-square n f = transposed-square n (passRows n (transposed n f))
+passColumns-square code n f = transposed-square n (passRows code n (transposed n f))

@@ -11,8 +11,8 @@ use Rattle.algebra.proofs.LinearLaws.{lin-additive, agrees}
 use Rattle.algebra.proofs.RegisterLaws.{carry-tested}
 use Rattle.algebra.proofs.Inverse.{rebuilt, inverse-tested}
 use Rattle.rules.specs.Field.{poly}
-use Rattle.rules.specs.Words.{g}
-use Rattle.rules.proofs.Laws.CheckLaws.{low, low-small}
+use Rattle.rules.specs.Codes.{g}
+use Rattle.rules.proofs.Laws.SmallCode.{low, low-small}
 
 -- a^0 .. a^15: what S₁ makes of 1, z, .., z^15
 unfoldable pub columns₁ : List ℕ

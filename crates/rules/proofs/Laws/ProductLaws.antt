@@ -16,8 +16,10 @@ use Rattle.algebra.proofs.Digits.{digits-case}
 use Rattle.algebra.proofs.XorLaws.{zero-⊕, ⊕-div, ⊕-digit, ⊕-self}
 use Rattle.algebra.proofs.TableLaws.{tab-length, tab-ext, zero-count}
 use Rattle.algebra.proofs.WordLaws.{⊻-length, ⊻-bit, dot-none}
-use Rattle.rules.specs.Words.{dataBits, checks, isCodeword, values}
+use Rattle.rules.specs.Codes.{Code, dataBits}
+use Rattle.rules.specs.Words.{checks, isCodeword, values}
 use Rattle.rules.specs.Frames.{Frame, row, cell, transposed}
+use Rattle.rules.proofs.Laws.CodeLaws.{Sound}
 use Rattle.rules.proofs.Laws.Shape.{Square, word-ext, bit-tab, transposed-row}
 use Rattle.rules.proofs.Laws.BitLaws.{same-digits}
 use Rattle.rules.proofs.Laws.CheckLaws.{checks-dot, checks-⊻, codeword-checks, checks-codeword, values-length}
@@ -72,20 +74,20 @@ unfolding bit
 bit-drop [] j = refl
 bit-drop (b ∷ w) j = refl
 
-module _ (n : ℕ) (pos : 1 ≤ n) where
+module _ (code : Code) (ok : Sound code) (n : ℕ) (pos : 1 ≤ n) where
   -- the word of these n bits has no checks
   Zero : (ℕ → Bool) → Type 0
-  Zero p = checks n (tab n p) ≡ 0
+  Zero p = checks code n (tab n p) ≡ 0
 
   zero-ext : (p q : ℕ → Bool) → ((i : ℕ) → i < n → p i ≡ q i) → Zero p → Zero q
   unfolding Zero
-  zero-ext p q h z = ap (checks n) (sym (tab-ext n p q h)) ∙ z
+  zero-ext p q h z = ap (checks code n) (sym (tab-ext n p q h)) ∙ z
 
   zero-false : Zero (λ i. false)
   unfolding Zero
   zero-false =
-      checks-dot n (tab n (λ i. false)) pos (tab-length n (λ i. false))
-      ∙ dot-none (values n) (tab n (λ i. false)) (zero-count n (λ i. false) (λ i h. refl))
+      checks-dot code ok n (tab n (λ i. false)) pos (tab-length n (λ i. false))
+      ∙ dot-none (values code n) (tab n (λ i. false)) (zero-count n (λ i. false) (λ i h. refl))
 
   zero-xor : (p q : ℕ → Bool) → Zero p → Zero q → Zero (λ i. xor (p i) (q i))
   unfolding Zero
@@ -96,7 +98,7 @@ module _ (n : ℕ) (pos : 1 ≤ n) where
       let e : tab n (λ i. xor (p i) (q i)) ≡ tab n p ⊻ tab n q =
       word-ext n (tab n (λ i. xor (p i) (q i))) (tab n p ⊻ tab n q) (tab-length n (λ i. xor (p i) (q i))) (⊻-length (tab n p) (tab n q) same ∙ lp)
       (λ j h. bit-tab n (λ i. xor (p i) (q i)) j h ∙ sym (⊻-bit (tab n p) (tab n q) same j ∙ ap₂ xor (bit-tab n p j h) (bit-tab n q j h))) in
-      ap (checks n) e ∙ checks-⊻ n (tab n p) (tab n q) pos lp lq ∙ ap₂ _⊕_ zp zq ∙ ⊕-self 0
+      ap (checks code n) e ∙ checks-⊻ code ok n (tab n p) (tab n q) pos lp lq ∙ ap₂ _⊕_ zp zq ∙ ⊕-self 0
 
   zero-and : (c : Bool) (p : ℕ → Bool) → Zero p → Zero (λ i. c && p i)
   zero-and true p z = z
@@ -117,32 +119,32 @@ module _ (n : ℕ) (pos : 1 ≤ n) where
       (λ j hj. zero-ext (λ i. bit (r i) (suc j)) (λ i. bit (drop 1 (r i)) j) (λ i hi. sym (bit-drop (r i) j)) (h (suc j) (omega arith)))))
 
 pub rows-carry :
-    (n : ℕ) (f : Frame) → 18 ≤ n → Square n f → Rows n (transposed n f) → ((i : ℕ) → i < dataBits n → isCodeword n (row f i) ≡ true)
-    → Rows n f
+    (code : Code) (ok : Sound code) (n : ℕ) (f : Frame) → code .shortest ≤ n → Square n f → Rows code n (transposed n f) → ((i : ℕ) → i < dataBits code n → isCodeword code n (row f i) ≡ true)
+    → Rows code n f
 unfolding Zero
-rows-carry n f h s columns rows i hi =
-    checks-codeword n (row f i) (checks-dot n (row f i) pos (s .1 i hi) ∙ digits-none (dot (values n) (row f i)) none)
+rows-carry code ok n f h s columns rows i hi =
+    checks-codeword code n (row f i) (checks-dot code ok n (row f i) pos (s .1 i hi) ∙ digits-none (dot (values code n) (row f i)) none)
   where
     pos : 1 ≤ n
     pos = omega arith
 
-    long : length (values n) ≡ n
-    long = let p : n ≡ suc (n - 1) = omega arith in rw p (values-length (n - 1))
+    long : length (values code n) ≡ n
+    long = values-length code ok n pos
 
-    column : (j : ℕ) → j < length (values n) → Zero n pos (λ i. cell f i j)
+    column : (j : ℕ) → j < length (values code n) → Zero code ok n pos (λ i. cell f i j)
     column j hj =
         let hn : j < n = omega (arith, long) in
-        ap (checks n) (sym (transposed-row n f j hn)) ∙ codeword-checks n (row (transposed n f) j) (columns j hn)
+        ap (checks code n) (sym (transposed-row n f j hn)) ∙ codeword-checks code n (row (transposed n f) j) (columns j hn)
 
-    none : (b : ℕ) → digit b (dot (values n) (row f i)) ≡ false
+    none : (b : ℕ) → digit b (dot (values code n) (row f i)) ≡ false
     none b =
-        let p : ℕ → Bool = λ i. digit b (dot (values n) (row f i)) in
+        let p : ℕ → Bool = λ i. digit b (dot (values code n) (row f i)) in
         sym (bit-tab n p i hi)
         ∙ ones-no n (tab n p) (tab-length n p)
-        (codeword-zero n (tab n p) h (tab-length n p)
-        (checks-codeword n (tab n p) (zero-digit n pos b (values n) (λ i. row f i) column))
+        (codeword-zero code ok n (tab n p) h (tab-length n p)
+        (checks-codeword code n (tab n p) (zero-digit code ok n pos b (values code n) (λ i. row f i) column))
         (λ j hj.
         let hn : j < n = omega arith in
         bit-tab n p j hn
-        ∙ ap (digit b) (sym (checks-dot n (row f j) pos (s .1 j hn)) ∙ codeword-checks n (row f j) (rows j hj))
+        ∙ ap (digit b) (sym (checks-dot code ok n (row f j) pos (s .1 j hn)) ∙ codeword-checks code n (row f j) (rows j hj))
         ∙ digit-zero b)) i hi

@@ -4,17 +4,20 @@ use mathlib.Core.Path.{_≡_, refl, sym, ap, ap₂, _∙_}
 use mathlib.Core.Logic.{_⊎_, inl, inr}
 use mathlib.Core.Bool.{Bool, true, false}
 use mathlib.Core.List.{List, [], _∷_, _++_, map}
+use mathlib.Core.Option.{Option, some, none}
 use Prim.Native.Nat.{ℕ}
 use native.Mathlib.Omega.{arith}
 use lib.Dec.{eqb}
 use lib.ListN.{replicate}
 use Rattle.algebra.specs.Tables.{ones, total}
 use Rattle.algebra.specs.Words.{Word, bit}
-use Rattle.rules.specs.Words.{remainder, isCodeword, Codeword, codeword, onePlace, twoPlaces, beyond, Answer, answer, places, changed, mend}
+use Rattle.rules.specs.Codes.{smallCode}
+use Rattle.rules.specs.Words.{remainder, isCodeword, Codeword, answer, places, changed, mend}
 use Rattle.rules.specs.Frames.{row}
 use Rattle.rules.specs.Bits.{rowBytes, wordOf, frameOf, wordBytes}
 use Rattle.rules.specs.Passes.{clean, repaired, stuck, spent, Outcome, decoded}
 use Rattle.rules.specs.Numbers.{frameBytes, encodeNumber, encodeOutput, Decoded, ended, decodeRefusal, decodeSaid, decodeOutput, WordSaid, answered, number, wordSaid, wordNumber, wordOutput, pick, told, handedOut, refused, wordRefused, wordRefusal}
+use Rattle.rules.proofs.Laws.SmallCode.{sound-small}
 use Rattle.rules.proofs.Laws.Shape.{wordOf-length}
 use Rattle.rules.proofs.Laws.EncodeWordLaws.{codeword-unique}
 use Rattle.rules.proofs.Laws.Computing.{computing}
@@ -42,12 +45,12 @@ nines m = replicate m 9
 
 unfoldable pub got : Asked → Got
 got (decode n a s) =
-    let said : Decoded = decodeSaid n a s (nines (frameBytes n)) in
-    decodes (number said) said (decodeOutput n a s (nines (frameBytes n)))
-got (encode n d) = encodes (encodeNumber n d (nines (frameBytes n))) (encodeOutput n d (nines (frameBytes n)))
+    let said : Decoded = decodeSaid smallCode n a s (nines (frameBytes n)) in
+    decodes (number said) said (decodeOutput smallCode n a s (nines (frameBytes n)))
+got (encode n d) = encodes (encodeNumber smallCode n d (nines (frameBytes n))) (encodeOutput smallCode n d (nines (frameBytes n)))
 got (word n s) =
-    let said : WordSaid = wordSaid n s (nines (rowBytes n)) in
-    words (wordNumber said) said (wordOutput n s (nines (rowBytes n)))
+    let said : WordSaid = wordSaid smallCode n s (nines (rowBytes n)) in
+    words (wordNumber said) said (wordOutput smallCode n s (nines (rowBytes n)))
 got (weigh n s) = weighs (total n (λ i. ones (row (frameOf n s) i)))
 
 -- the two codewords of 18 bits, each as one row
@@ -88,14 +91,14 @@ table =
     -- the code bits of that frame that are ones
     ∷ (weigh 18 square, weighs 144)
     -- the parity bit is wrong
-    ∷ (word 18 (0x00 ∷ 0x00 ∷ 0x40 ∷ []), words 0 (answered (onePlace 17)) o)
+    ∷ (word 18 (0x00 ∷ 0x00 ∷ 0x40 ∷ []), words 0 (answered (some (17 ∷ []))) o)
     -- three wrong bits
-    ∷ (word 18 (0xE0 ∷ 0x00 ∷ 0x00 ∷ []), words 9 (answered beyond) (0xE0 ∷ 0x00 ∷ 0x00 ∷ []))
+    ∷ (word 18 (0xE0 ∷ 0x00 ∷ 0x00 ∷ []), words 9 (answered none) (0xE0 ∷ 0x00 ∷ 0x00 ∷ []))
     -- 256 ones are a codeword
-    ∷ (word 256 (replicate 32 0xFF), words 0 (answered codeword) (replicate 32 0xFF))
+    ∷ (word 256 (replicate 32 0xFF), words 0 (answered (some [])) (replicate 32 0xFF))
     -- 255 and 254 are none, and could be mended only where places were cut away
-    ∷ (word 255 (replicate 31 0xFF ++ 0xFE ∷ []), words 9 (answered beyond) (replicate 31 0xFF ++ 0xFE ∷ []))
-    ∷ (word 254 (replicate 31 0xFF ++ 0xFC ∷ []), words 9 (answered beyond) (replicate 31 0xFF ++ 0xFC ∷ []))
+    ∷ (word 255 (replicate 31 0xFF ++ 0xFE ∷ []), words 9 (answered none) (replicate 31 0xFF ++ 0xFE ∷ []))
+    ∷ (word 254 (replicate 31 0xFF ++ 0xFC ∷ []), words 9 (answered none) (replicate 31 0xFF ++ 0xFC ∷ []))
     -- A, and a spare bit set
     ∷ (decode 18 2 (0x00 ∷ 0x00 ∷ 0x20 ∷ zeros 51), decodes 0 (ended clean 0 0 0 0) (zeros 54))
     ∷ []
@@ -112,13 +115,13 @@ Bench = AsListed table
 
 quick : Asked → Got
 quick (decode n a s) =
-    let r : ℕ = decodeRefusal n a s (nines (frameBytes n)) in
-    let o : Outcome = decoded n a (frameOf n s) in
+    let r : ℕ = decodeRefusal smallCode n a s (nines (frameBytes n)) in
+    let o : Outcome = decoded smallCode n a (frameOf n s) in
     pick (eqb r 0) (decodes (number (told o)) (told o) (handedOut n s o)) (decodes r (refused r) (nines (frameBytes n)))
 quick (encode n d) = got (encode n d)
 quick (word n s) =
-    let r : ℕ = wordRefusal n s (nines (rowBytes n)) in
-    let a : Answer = answer n (wordOf n s 0) in
+    let r : ℕ = wordRefusal smallCode n s (nines (rowBytes n)) in
+    let a : Option (List ℕ) = answer smallCode n (wordOf n s 0) in
     let m : ℕ = wordNumber (answered a) in
     pick (eqb r 0) (words m (answered a) (pick (eqb m 0) (wordBytes n (changed (places a) (wordOf n s 0))) s))
     (words r (wordRefused r) (nines (rowBytes n)))
@@ -126,13 +129,13 @@ quick (weigh n s) = got (weigh n s)
 
 quick-is : (x : Asked) → got x ≡ quick x
 unfolding got quick decodeSaid decodeOutput wordSaid wordOutput mend
-quick-is (decode n a s) = go (eqb (decodeRefusal n a s (nines (frameBytes n))) 0)
+quick-is (decode n a s) = go (eqb (decodeRefusal smallCode n a s (nines (frameBytes n))) 0)
   where
     r : ℕ
-    r = decodeRefusal n a s (nines (frameBytes n))
+    r = decodeRefusal smallCode n a s (nines (frameBytes n))
 
     o : Outcome
-    o = decoded n a (frameOf n s)
+    o = decoded smallCode n a (frameOf n s)
 
     go :
         (b : Bool)
@@ -141,13 +144,13 @@ quick-is (decode n a s) = go (eqb (decodeRefusal n a s (nines (frameBytes n))) 0
     go true = refl
     go false = refl
 quick-is (encode n d) = refl
-quick-is (word n s) = go (eqb (wordRefusal n s (nines (rowBytes n))) 0)
+quick-is (word n s) = go (eqb (wordRefusal smallCode n s (nines (rowBytes n))) 0)
   where
     r : ℕ
-    r = wordRefusal n s (nines (rowBytes n))
+    r = wordRefusal smallCode n s (nines (rowBytes n))
 
-    a : Answer
-    a = answer n (wordOf n s 0)
+    a : Option (List ℕ)
+    a = answer smallCode n (wordOf n s 0)
 
     w : List ℕ
     w = wordBytes n (changed (places a) (wordOf n s 0))
@@ -197,8 +200,8 @@ ten = 0x17 ∷ 0xB1 ∷ 0xC0 ∷ zeros 51
 unfoldable pub more : List (Asked × Got)
 more =
     -- three wrong bits, of which the remainder alone locates two others
-    (word 32 three, words 9 (answered beyond) three)
-    ∷ (word 32 pair, words 0 (answered (twoPlaces 16 30)) (zeros 4))
+    (word 32 three, words 9 (answered none) three)
+    ∷ (word 32 pair, words 0 (answered (some (16 ∷ 30 ∷ []))) (zeros 4))
     -- stuck after a bit was mended: the received bytes
     ∷ (decode 18 2 half, decodes 7 (ended stuck 2 1 3 3) half)
     -- pass 3 decodes the rows again
@@ -213,7 +216,7 @@ more =
 
 pub record MoreItems : Type 0 where
   pub shown : AsListed more
-  pub located : remainder 32 (wordOf 32 three 0) ≡ remainder 32 (wordOf 32 pair 0)
+  pub located : remainder smallCode 32 (wordOf 32 three 0) ≡ remainder smallCode 32 (wordOf 32 pair 0)
 
 pub more-items : MoreItems
 unfolding computing nines got quick more
@@ -223,7 +226,7 @@ more-items = record { shown = quickly more refl; located = refl }
 
 -- the number that refuses: n, allowance, bytes received, bytes lent
 unfoldable pub refusal : ℕ → ℕ → ℕ → ℕ → ℕ
-refusal n allowance received lent = decodeRefusal n allowance (zeros received) (nines lent)
+refusal n allowance received lent = decodeRefusal smallCode n allowance (zeros received) (nines lent)
 
 abbrev pub Ranges : Type 0
 Ranges =
@@ -242,16 +245,16 @@ ranges = refl
 -- ---- The codewords of 18 bits
 
 pub record TwoCodewords : Type 0 where
-  pub both : (isCodeword 18 (wordOf 18 o 0) ≡ true) × (isCodeword 18 (wordOf 18 c 0) ≡ true)
+  pub both : (isCodeword smallCode 18 (wordOf 18 o 0) ≡ true) × (isCodeword smallCode 18 (wordOf 18 c 0) ≡ true)
   pub twelve : ones (wordOf 18 c 0) ≡ 12
-  pub only : (w : Word) → Codeword 18 w → (w ≡ wordOf 18 o 0) ⊎ (w ≡ wordOf 18 c 0)
+  pub only : (w : Word) → Codeword smallCode 18 w → (w ≡ wordOf 18 o 0) ⊎ (w ≡ wordOf 18 c 0)
 
 -- one data bit, so one of the two
 by-data :
-    (u : List ℕ) (w : Word) → Codeword 18 w → isCodeword 18 (wordOf 18 u 0) ≡ true → bit w 0 ≡ bit (wordOf 18 u 0) 0
+    (u : List ℕ) (w : Word) → Codeword smallCode 18 w → isCodeword smallCode 18 (wordOf 18 u 0) ≡ true → bit w 0 ≡ bit (wordOf 18 u 0) 0
     → w ≡ wordOf 18 u 0
-by-data u w k code e =
-    codeword-unique 18 w (wordOf 18 u 0) (omega arith) (k .0) (wordOf-length 18 u 0) (k .1) code
+by-data u w k whole e =
+    codeword-unique smallCode sound-small 18 w (wordOf 18 u 0) (omega arith) (k .0) (wordOf-length 18 u 0) (k .1) whole
     (λ j h. let z : j ≡ 0 = omega arith in ap (λ i. bit w i) z ∙ e ∙ ap (λ i. bit (wordOf 18 u 0) i) (sym z))
 
 pub two-codewords : TwoCodewords

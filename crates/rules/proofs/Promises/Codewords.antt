@@ -1,36 +1,40 @@
--- RULES 2: a word is a codeword exactly if g divides its polynomial and its ones are even in number.
+-- RULES 2: a word is a codeword exactly if the generator divides its polynomial and, where a parity bit stands behind, its ones
+-- are even in number.
 -- Assumes nothing.
 use mathlib.Core.Path.{_≡_}
-use mathlib.Core.Logic.{_↔_}
-use mathlib.Core.Bool.{true}
-use Prim.Native.Nat.{ℕ, _-_, _%_}
+use mathlib.Core.Logic.{_↔_, Iff·trans, Iff·rfl, Iff·and}
+use mathlib.Core.Bool.{Bool, true, false}
+use Prim.Native.Nat.{ℕ, _%_}
 use native.Mathlib.Omega.{arith}
 use lib.ListN.{take}
 use Rattle.algebra.specs.Tables.{ones}
 use Rattle.algebra.specs.Words.{Word}
 use Rattle.algebra.specs.Remainder.{fromCoefficients, Multiple}
-use Rattle.algebra.proofs.DivisionLaws.{divides}
-use Rattle.rules.specs.Words.{g, remainder, checks, isCodeword}
-use Rattle.rules.proofs.Laws.CheckLaws.{low, low-small, g-low, codeword-checks, checks-codeword}
+use Rattle.rules.specs.Codes.{Code}
+use Rattle.rules.specs.Words.{withParity, frontBits, remainder, checks, isCodeword}
+use Rattle.rules.proofs.Laws.CodeLaws.{Sound, register-divides}
+use Rattle.rules.proofs.Laws.CheckLaws.{codeword-checks, checks-codeword}
 
--- all bits but the last are the coefficients of a multiple of g, the highest power first; and the ones of all bits are even in number
-abbrev pub Codewords : Type 0
-Codewords =
-    (n : ℕ) (w : Word) → (isCodeword n w ≡ true) ↔ (Multiple g (fromCoefficients 0 (take (n - 1) w)) × (ones w % 2 ≡ 0))
+-- the ones are even in number, if that is asked
+abbrev pub Even : Bool → ℕ → Type 0
+Even true o = o % 2 ≡ 0
+Even false o = Unit {0}
 
--- the shift register is division by g
-remainder-divides : (n : ℕ) (w : Word) → (remainder n w ≡ 0) ↔ Multiple g (fromCoefficients 0 (take (n - 1) w))
-unfolding remainder
-remainder-divides n w = rw g-low (divides 15 low low-small (take (n - 1) w))
+-- all bits but the parity bit are the coefficients of a multiple of the generator, the highest power first
+abbrev pub Codewords : Code → Type 0
+Codewords code =
+    (n : ℕ) (w : Word)
+    → (isCodeword code n w ≡ true)
+    ↔ (Multiple (code .generator) (fromCoefficients 0 (take (frontBits code n) w)) × Even (code .extended) (ones w))
 
-pub codewords : Codewords
-unfolding checks
-codewords n w = (
-  λ h.
-      let e = codeword-checks n w h in
-      let z : remainder n w ≡ 0 = omega arith in
-      (remainder-divides n w .0 z, omega arith),
-  λ p.
-      let z : remainder n w ≡ 0 = remainder-divides n w .1 (p .0) in
-      checks-codeword n w (let o = p .1 in omega arith),
-)
+-- checks are zero where remainder and parity are
+checks-zero : (b : Bool) (r o : ℕ) → (withParity b r o ≡ 0) ↔ ((r ≡ 0) × Even b o)
+checks-zero true r o = (λ h. (omega arith, omega arith), λ h. let z = h .0 in let e = h .1 in omega arith)
+checks-zero false r o = (λ h. (h, tt), λ h. h .0)
+
+pub codewords : (code : Code) (ok : Sound code) → Codewords code
+unfolding checks remainder
+codewords code ok n w =
+    Iff·trans (codeword-checks code n w, checks-codeword code n w)
+    (Iff·trans (checks-zero (code .extended) (remainder code n w) (ones w))
+    (Iff·and (register-divides code ok (take (frontBits code n) w)) Iff·rfl))

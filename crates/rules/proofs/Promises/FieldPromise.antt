@@ -21,7 +21,7 @@ use Rattle.algebra.proofs.RegisterProduct.{multiply, multiply-lt, multiply-asso
 use Rattle.algebra.proofs.Inverse.{rebuilt, inverse-tested}
 use Rattle.algebra.proofs.Field256Laws.{tables256, round256}
 use Rattle.rules.specs.Field.{poly, minimal₁, minimal₃, timesA, power, logarithm, product, valueAt}
-use Rattle.rules.specs.Words.{g}
+use Rattle.rules.specs.Codes.{g}
 use Rattle.rules.proofs.Laws.FieldLaws.{power-is, logarithm-small, logarithm-zero, power-logarithm, product-powers, product-zero-left, product-zero-right}
 
 -- Under ⊕ and this product the numbers below the size are a field. Each is its own opposite, so a difference is a sum.

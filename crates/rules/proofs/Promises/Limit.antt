@@ -4,10 +4,11 @@ use mathlib.Core.Path.{_≡_, refl, sym, ap, _∙_}
 use mathlib.Core.Logic.{_≢_, ⊎-elim}
 use mathlib.Core.Bool.{true, true≢false}
 use mathlib.Core.List.{List, [], _∷_, _++_}
-use Prim.Native.Nat.{ℕ, _≤_}
+use Prim.Native.Nat.{ℕ, suc, _≤_}
 use native.Mathlib.Omega.{arith}
 use lib.ListN.{getD, replicate}
 use Rattle.algebra.specs.Words.{Word, bit, differ}
+use Rattle.rules.specs.Codes.{radius, smallCode}
 use Rattle.rules.specs.Frames.{isFrame}
 use Rattle.rules.specs.Bits.{wordOf, frameOf, bytesOf}
 use Rattle.rules.specs.Passes.{clean, repaired, stuck, differences, good, decoded}
@@ -44,54 +45,54 @@ other = six ++ zeros 20 ++ six ++ zeros 28 ++ six ++ six ++ zeros 4 ++ six ++ ze
 
 pub record Limit : Type 0 where
   -- a written frame
-  pub encoded : encodeNumber 31 (zeros 28) (zeros 124) ≡ 0
-  pub frame : encodeOutput 31 (zeros 28) (zeros 124) ≡ written
+  pub encoded : encodeNumber smallCode 31 (zeros 28) (zeros 124) ≡ 0
+  pub frame : encodeOutput smallCode 31 (zeros 28) (zeros 124) ≡ written
   -- four rows have three or more wrong bits, sixteen in all
   pub rows : spoilt 2 31 (frameOf 31 written) (frameOf 31 received) ≡ 4
   pub bits : differences 31 (frameOf 31 written) (frameOf 31 received) ≡ 16
   -- number 0, and another frame
-  pub said : decodeSaid 31 2 received (zeros 124) ≡ ended repaired 2 20 0 0
-  pub handed : decodeOutput 31 2 received (zeros 124) ≡ other
+  pub said : decodeSaid smallCode 31 2 received (zeros 124) ≡ ended repaired 2 20 0 0
+  pub handed : decodeOutput smallCode 31 2 received (zeros 124) ≡ other
   pub wrong : other ≢ written
-  -- no distance of 7: `six` and zero are codewords
-  pub seven : ¬ DistanceAt 7
+  -- the distance is no more than is claimed: `six` and zero are codewords
+  pub no-farther : ¬ DistanceAt smallCode (suc (smallCode .distance))
   -- three rows of three wrong bits are already too many: item D is not mended
-  pub three-rows : ¬ RepairsFramesAt 3
-  pub three-rows-bytes : ¬ BackAt 3
+  pub three-rows : ¬ RepairsFramesAt smallCode (suc (radius smallCode))
+  pub three-rows-bytes : ¬ BackAt smallCode (suc (radius smallCode))
 
 -- item D
 abbrev nine : List ℕ
 nine = 0xE0 ∷ 0 ∷ 0 ∷ 0xE0 ∷ 0 ∷ 0 ∷ 0xE0 ∷ zeros 47
 
-no-seven : ¬ DistanceAt 7
+farther-none : ¬ DistanceAt smallCode (suc (smallCode .distance))
 unfolding computing
-no-seven d =
+farther-none d =
     let w : Word = wordOf 31 six 0 in
     let u : Word = wordOf 31 (zeros 4) 0 in
     let e : differ w u ≡ 6 = refl in
-    let h : 7 ≤ differ w u =
+    let h : suc (smallCode .distance) ≤ differ w u =
     d 31 (omega arith) (omega arith) w u (refl, refl) (refl, refl) (λ q. true≢false (ap (λ x. bit x 0) q)) in
     absurd (omega arith)
 
-nine-stuck : decoded 18 2 (frameOf 18 nine) .ending ≡ stuck
+nine-stuck : decoded smallCode 18 2 (frameOf 18 nine) .ending ≡ stuck
 unfolding computing
 nine-stuck = refl
 
-nine-said : number (decodeSaid 18 2 nine (zeros 54)) ≡ 7
+nine-said : number (decodeSaid smallCode 18 2 nine (zeros 54)) ≡ 7
 unfolding computing
 nine-said = refl
 
-nine-rows : (isFrame 18 (frameOf 18 (zeros 54)) ≡ true) × (spoilt 2 18 (frameOf 18 (zeros 54)) (frameOf 18 nine) ≡ 3)
+nine-rows : (isFrame smallCode 18 (frameOf 18 (zeros 54)) ≡ true) × (spoilt 2 18 (frameOf 18 (zeros 54)) (frameOf 18 nine) ≡ 3)
 unfolding computing
 nine-rows = (refl, refl)
 
-zeros-written : Written 18 (zeros 54)
+zeros-written : Written smallCode 18 (zeros 54)
 unfolding computing
 zeros-written = record { input = 0 ∷ []; blank = zeros 54; accepts = refl; writes = refl }
 
-no-three : ¬ RepairsFramesAt 3
+no-three : ¬ RepairsFramesAt smallCode (suc (radius smallCode))
 no-three r =
-    let b : Restored (frameOf 18 (zeros 54)) (decoded 18 2 (frameOf 18 nine)) =
+    let b : Restored (frameOf 18 (zeros 54)) (decoded smallCode 18 2 (frameOf 18 nine)) =
     r 18 2 (omega arith) (omega arith) (omega arith) (frameOf 18 (zeros 54)) (frameOf 18 nine) (frameOf-square 18 (zeros 54))
     (frameOf-square 18 nine) (nine-rows .0) (omega (arith, nine-rows .1)) in
     ⊎-elim (λ q. apart (sym nine-stuck ∙ q)) (λ q. apart′ (sym nine-stuck ∙ q)) (b .success)
@@ -102,39 +103,39 @@ no-three r =
     apart′ : stuck ≢ repaired
     apart′ q = let z : _≡_ {A = ℕ} 0 1 = cc in omega arith
 
-no-three-bytes : ¬ BackAt 3
+no-three-bytes : ¬ BackAt smallCode (suc (radius smallCode))
 no-three-bytes r =
-    let b : Back 18 2 (zeros 54) nine (zeros 54) =
+    let b : Back smallCode 18 2 (zeros 54) nine (zeros 54) =
     r 18 2 (zeros 54) nine (zeros 54) zeros-written (refl, omega (arith, nine-rows .1)) (omega arith) (omega arith) refl in
     omega (arith, b .zero, nine-said)
 
 -- computed once, for what is said and for the output
-goes-wrong : decoded 31 2 (frameOf 31 received) ≡ good repaired 2 20 (frameOf 31 other)
+goes-wrong : decoded smallCode 31 2 (frameOf 31 received) ≡ good repaired 2 20 (frameOf 31 other)
 unfolding computing
 goes-wrong = refl
 
-accepted : decodeRefusal 31 2 received (zeros 124) ≡ 0
+accepted : decodeRefusal smallCode 31 2 received (zeros 124) ≡ 0
 unfolding computing
 accepted = refl
 
-said-here : decodeSaid 31 2 received (zeros 124) ≡ ended repaired 2 20 0 0
+said-here : decodeSaid smallCode 31 2 received (zeros 124) ≡ ended repaired 2 20 0 0
 unfolding decodeSaid
 said-here =
-    at-zero (decodeRefusal 31 2 received (zeros 124)) (told (decoded 31 2 (frameOf 31 received)))
-    (refused (decodeRefusal 31 2 received (zeros 124))) accepted
+    at-zero (decodeRefusal smallCode 31 2 received (zeros 124)) (told (decoded smallCode 31 2 (frameOf 31 received)))
+    (refused (decodeRefusal smallCode 31 2 received (zeros 124))) accepted
     ∙ ap told goes-wrong
 
 other-bytes : bytesOf 31 (frameOf 31 other) ≡ other
 unfolding computing
 other-bytes = refl
 
-handed-here : decodeOutput 31 2 received (zeros 124) ≡ other
+handed-here : decodeOutput smallCode 31 2 received (zeros 124) ≡ other
 unfolding decodeOutput
 handed-here =
-    at-zero (decodeRefusal 31 2 received (zeros 124)) (handedOut 31 received (decoded 31 2 (frameOf 31 received))) (zeros 124) accepted
+    at-zero (decodeRefusal smallCode 31 2 received (zeros 124)) (handedOut 31 received (decoded smallCode 31 2 (frameOf 31 received))) (zeros 124) accepted
     ∙ ap (handedOut 31 received) goes-wrong ∙ other-bytes
 
-encoded-here : (encodeNumber 31 (zeros 28) (zeros 124) ≡ 0) × (encodeOutput 31 (zeros 28) (zeros 124) ≡ written)
+encoded-here : (encodeNumber smallCode 31 (zeros 28) (zeros 124) ≡ 0) × (encodeOutput smallCode 31 (zeros 28) (zeros 124) ≡ written)
 unfolding computing
 encoded-here = (refl, refl)
 
@@ -156,7 +157,7 @@ limit = record {
   said = said-here;
   handed = handed-here;
   wrong = other-wrong;
-  seven = no-seven;
+  no-farther = farther-none;
   three-rows = no-three;
   three-rows-bytes = no-three-bytes;
 }

@@ -4,6 +4,7 @@ use mathlib.Core.Path.{_≡_, refl, sym, ap, _∙_}
 use mathlib.Core.Logic.{_≢_, _↔_, _⊎_, inl, inr}
 use mathlib.Core.Bool.{Bool, true, false, not, _||_, true≢false}
 use mathlib.Core.List.{List, [], _∷_, _++_}
+use mathlib.Core.Option.{Option, some, none}
 use Prim.Native.Nat.{ℕ, _+_, _*_, _≤_, _<_}
 use native.Mathlib.Nat.{suc-mul, mul-le-mul-right}
 use native.Mathlib.Decide.{ℕ-discrete}
@@ -12,11 +13,13 @@ use lib.Dec.{eqb, ltb}
 use lib.ListN.{length, take, drop, length-drop}
 use lib.Seq.{length-take-le}
 use borrow.Author.Tests.{ltb-true, lt-ltb, not-false}
-use Rattle.rules.specs.Words.{dataBits, Answer, codeword, onePlace, twoPlaces, beyond, answer, mend, isIn}
+use Rattle.rules.specs.Codes.{Code, dataBits}
+use Rattle.rules.specs.Words.{answer, mend, isIn}
 use Rattle.rules.specs.Frames.{corner, rowsFirst}
 use Rattle.rules.specs.Bits.{rowBytes, wordOf, frameOf, wordBytes, bytesOf}
 use Rattle.rules.specs.Passes.{Ending, clean, repaired, stuck, spent, Outcome, decoded}
 use Rattle.rules.specs.Numbers.{pick, outside, notLong, frameBytes, encodeNumber, encodeOutput, readNumber, readOutput, refused, told, handedOut, decodeRefusal, decodeSaid, decodeOutput, ended, number, wordRefused, answered, wordRefusal, wordSaid, wordNumber, wordOutput, rowRefused, rowPart, encodeRefusals, readRefusals, decodeRefusals, wordRefusals}
+use Rattle.rules.proofs.Laws.CodeLaws.{Sound}
 use Rattle.rules.proofs.Laws.PackLaws.{bytesOf-length, wordBytes-length}
 use Rattle.rules.proofs.Laws.NumberLaws.{range-test, equal-test, first-in, encode-accepts, read-accepts, decode-accepts, word-accepts, handed, at-zero, at-other, at-either}
 use Rattle.rules.proofs.Laws.OneOfLaws.{OneOf, one-of-cons, one-of-back, one-of-front, allIn, one-of-range}
@@ -28,39 +31,39 @@ pub record NumberTable (refusals endings : List ℕ) (given : ℕ) (accepted inp
   pub done : given ≡ 0 → out ≡ accepted
   -- refused: as it was
   pub untouched : OneOf given refusals → out ≡ output
-  -- stuck, spent or beyond: what was received
+  -- stuck, spent or none near enough: what was received
   pub received : OneOf given endings → out ≡ input
   pub long : length out ≡ length output
 
 -- n, the length and i are good
-abbrev pub GoodRow : ℕ → List ℕ → ℕ → Type 0
-GoodRow n input i = (18 ≤ n) × (n ≤ 256) × (length input ≡ frameBytes n) × (i < n)
+abbrev pub GoodRow : Code → ℕ → List ℕ → ℕ → Type 0
+GoodRow code n input i = (code .shortest ≤ n) × (n ≤ code .longest) × (length input ≡ frameBytes n) × (i < n)
 
 -- the bytes of row i
 abbrev pub rowOfBytes : ℕ → List ℕ → ℕ → List ℕ
 rowOfBytes n input i = take (rowBytes n) (drop (i * rowBytes n) input)
 
-pub record Refuses : Type 0 where
+pub record Refuses (code : Code) : Type 0 where
   pub encode :
       (n : ℕ) (input output : List ℕ)
-      → NumberTable (1 ∷ 2 ∷ 3 ∷ 5 ∷ []) [] (encodeNumber n input output) (bytesOf n (rowsFirst n (frameOf (dataBits n) input))) input output
-      (encodeOutput n input output)
+      → NumberTable (1 ∷ 2 ∷ 3 ∷ 5 ∷ []) [] (encodeNumber code n input output) (bytesOf n (rowsFirst code n (frameOf (dataBits code n) input))) input output
+      (encodeOutput code n input output)
   pub read :
       (n : ℕ) (input output : List ℕ)
-      → NumberTable (1 ∷ 2 ∷ 3 ∷ 6 ∷ []) [] (readNumber n input output) (bytesOf (dataBits n) (corner (dataBits n) (frameOf n input))) input output
-      (readOutput n input output)
+      → NumberTable (1 ∷ 2 ∷ 3 ∷ 6 ∷ []) [] (readNumber code n input output) (bytesOf (dataBits code n) (corner (dataBits code n) (frameOf n input))) input output
+      (readOutput code n input output)
   pub decode :
       (n allowance : ℕ) (input output : List ℕ)
-      → NumberTable (1 ∷ 2 ∷ 3 ∷ 4 ∷ []) (7 ∷ 8 ∷ []) (number (decodeSaid n allowance input output))
-      (bytesOf n (decoded n allowance (frameOf n input) .last)) input output (decodeOutput n allowance input output)
+      → NumberTable (1 ∷ 2 ∷ 3 ∷ 4 ∷ []) (7 ∷ 8 ∷ []) (number (decodeSaid code n allowance input output))
+      (bytesOf n (decoded code n allowance (frameOf n input) .last)) input output (decodeOutput code n allowance input output)
   pub word :
       (n : ℕ) (input output : List ℕ)
-      → NumberTable (1 ∷ 2 ∷ 3 ∷ []) (9 ∷ []) (wordNumber (wordSaid n input output)) (wordBytes n (mend n (wordOf n input 0))) input output
-      (wordOutput n input output)
+      → NumberTable (1 ∷ 2 ∷ 3 ∷ []) (9 ∷ []) (wordNumber (wordSaid code n input output)) (wordBytes n (mend code n (wordOf n input 0))) input output
+      (wordOutput code n input output)
   pub row :
       (n : ℕ) (input : List ℕ) (i : ℕ)
-      → (GoodRow n input i → (rowPart n input i ≡ rowOfBytes n input i) × (length (rowOfBytes n input i) ≡ rowBytes n) × (3 ≤ rowBytes n))
-      × (¬ GoodRow n input i → rowPart n input i ≡ [])
+      → (GoodRow code n input i → (rowPart code n input i ≡ rowOfBytes n input i) × (length (rowOfBytes n input i) ≡ rowBytes n) × (1 ≤ rowBytes n))
+      × (¬ GoodRow code n input i → rowPart code n input i ≡ [])
 
 -- ---- the table, from the number of the refusal and that of the ending
 
@@ -146,60 +149,58 @@ pick-ap f true x y = refl
 pick-ap f false x y = refl
 
 decode-table :
-    (n allowance : ℕ) (input output : List ℕ)
-    → NumberTable (1 ∷ 2 ∷ 3 ∷ 4 ∷ []) (7 ∷ 8 ∷ []) (number (decodeSaid n allowance input output))
-    (bytesOf n (decoded n allowance (frameOf n input) .last)) input output (decodeOutput n allowance input output)
+    (code : Code) (n allowance : ℕ) (input output : List ℕ)
+    → NumberTable (1 ∷ 2 ∷ 3 ∷ 4 ∷ []) (7 ∷ 8 ∷ []) (number (decodeSaid code n allowance input output))
+    (bytesOf n (decoded code n allowance (frameOf n input) .last)) input output (decodeOutput code n allowance input output)
 unfolding decodeRefusal decodeSaid decodeOutput allIn
-decode-table n allowance input output =
-    let r : ℕ = decodeRefusal n allowance input output in
-    let o : Outcome = decoded n allowance (frameOf n input) in
-    table (1 ∷ 2 ∷ 3 ∷ 4 ∷ []) (7 ∷ 8 ∷ []) refl refl r (number (told o)) (number (decodeSaid n allowance input output))
+decode-table code n allowance input output =
+    let r : ℕ = decodeRefusal code n allowance input output in
+    let o : Outcome = decoded code n allowance (frameOf n input) in
+    table (1 ∷ 2 ∷ 3 ∷ 4 ∷ []) (7 ∷ 8 ∷ []) refl refl r (number (told o)) (number (decodeSaid code n allowance input output))
     (handedOut n input o) (bytesOf n (o .last)) input output (pick-ap number (eqb r 0) (told o) (refused r))
-    (first-in (decodeRefusals n allowance input output)) (ending-in (o .ending) (o .passes) (o .flips) (o .rows) (o .columns))
+    (first-in (decodeRefusals code n allowance input output)) (ending-in (o .ending) (o .passes) (o .flips) (o .rows) (o .columns))
     (λ z. handed n input o)
     (λ z.
-    let f = decode-accepts n allowance input output .0 z .0 in
+    let f = decode-accepts code n allowance input output .0 z .0 in
     (bytesOf-length n (o .last) ∙ sym (f .lent), λ p. f .taken ∙ sym (f .lent)))
 
 -- ---- a single word
 
-word-in : (n : ℕ) (input output : List ℕ) → OneOf (wordRefusal n input output) (0 ∷ 1 ∷ 2 ∷ 3 ∷ [])
+word-in : (code : Code) (n : ℕ) (input output : List ℕ) → OneOf (wordRefusal code n input output) (0 ∷ 1 ∷ 2 ∷ 3 ∷ [])
 unfolding wordRefusal isIn
-word-in n input output = first-in (wordRefusals n input output)
+word-in code n input output = first-in (wordRefusals code n input output)
 
-answer-in : (a : Answer) → OneOf (wordNumber (answered a)) (0 ∷ 9 ∷ [])
+answer-in : (a : Option (List ℕ)) → OneOf (wordNumber (answered a)) (0 ∷ 9 ∷ [])
 unfolding isIn
-answer-in codeword = refl
-answer-in (onePlace p) = refl
-answer-in (twoPlaces p q) = refl
-answer-in beyond = refl
+answer-in (some ps) = refl
+answer-in none = refl
 
 word-table :
-    (n : ℕ) (input output : List ℕ)
-    → NumberTable (1 ∷ 2 ∷ 3 ∷ []) (9 ∷ []) (wordNumber (wordSaid n input output)) (wordBytes n (mend n (wordOf n input 0))) input output
-    (wordOutput n input output)
+    (code : Code) (n : ℕ) (input output : List ℕ)
+    → NumberTable (1 ∷ 2 ∷ 3 ∷ []) (9 ∷ []) (wordNumber (wordSaid code n input output)) (wordBytes n (mend code n (wordOf n input 0))) input output
+    (wordOutput code n input output)
 unfolding wordSaid wordOutput allIn
-word-table n input output =
-    let r : ℕ = wordRefusal n input output in
-    let a : Answer = answer n (wordOf n input 0) in
-    let w : List ℕ = wordBytes n (mend n (wordOf n input 0)) in
-    let given : ℕ = wordNumber (wordSaid n input output) in
+word-table code n input output =
+    let r : ℕ = wordRefusal code n input output in
+    let a : Option (List ℕ) = answer code n (wordOf n input 0) in
+    let w : List ℕ = wordBytes n (mend code n (wordOf n input 0)) in
+    let given : ℕ = wordNumber (wordSaid code n input output) in
     table (1 ∷ 2 ∷ 3 ∷ []) (9 ∷ []) refl refl r (wordNumber (answered a)) given (pick (eqb given 0) w input) w input output
-    (pick-ap wordNumber (eqb r 0) (answered a) (wordRefused r)) (word-in n input output) (answer-in a)
+    (pick-ap wordNumber (eqb r 0) (answered a) (wordRefused r)) (word-in code n input output) (answer-in a)
     (λ z. ap (λ s. pick (eqb (wordNumber s) 0) w input) (at-zero r (answered a) (wordRefused r) z))
     (λ z.
-    let f = word-accepts n input output .0 z in
-    (wordBytes-length n (mend n (wordOf n input 0)) ∙ sym (f .lent), λ p. f .taken ∙ sym (f .lent)))
+    let f = word-accepts code n input output .0 z in
+    (wordBytes-length n (mend code n (wordOf n input 0)) ∙ sym (f .lent), λ p. f .taken ∙ sym (f .lent)))
 
 -- ---- a row
 
 good-row :
-    (n : ℕ) (input : List ℕ) (i : ℕ) → 18 ≤ n → length input ≡ frameBytes n → i < n
-    → (length (take (rowBytes n) (drop (i * rowBytes n) input)) ≡ rowBytes n) × (3 ≤ rowBytes n)
-good-row n input i le long h =
+    (code : Code) (ok : Sound code) (n : ℕ) (input : List ℕ) (i : ℕ) → code .shortest ≤ n → length input ≡ frameBytes n → i < n
+    → (length (take (rowBytes n) (drop (i * rowBytes n) input)) ≡ rowBytes n) × (1 ≤ rowBytes n)
+good-row code ok n input i le long h =
     let r : ℕ = rowBytes n in
     let fits : i * r + r ≤ n * r = omega (arith, suc-mul i r, mul-le-mul-right r h) in
-    (length-take-le r (drop (i * r) input) (omega (arith, length-drop (i * r) input)), omega arith)
+    (length-take-le r (drop (i * r) input) (omega (arith, length-drop (i * r) input)), omega (arith, ok .room))
 
 or-false : (a b c : Bool) → (a || b || c) ≡ false → (a ≡ false) × (b ≡ false) × (c ≡ false)
 or-false true b c h = absurd (true≢false h)
@@ -209,45 +210,45 @@ or-false false false c h = (refl, refl, h)
 false-or : (a b c : Bool) → a ≡ false → b ≡ false → c ≡ false → (a || b || c) ≡ false
 false-or a b c ha hb hc = rw (ha, hb, hc)
 
-pub row-test : (n : ℕ) (input : List ℕ) (i : ℕ) → (rowRefused n input i ≡ false) ↔ GoodRow n input i
-row-test n input i = (
+pub row-test : (code : Code) (n : ℕ) (input : List ℕ) (i : ℕ) → (rowRefused code n input i ≡ false) ↔ GoodRow code n input i
+row-test code n input i = (
   λ h.
-      let t = or-false (outside n) (notLong input (frameBytes n)) (not (ltb i n)) h in
-      let r = range-test 18 256 n .0 (t .0) in
+      let t = or-false (outside code n) (notLong input (frameBytes n)) (not (ltb i n)) h in
+      let r = range-test (code .shortest) (code .longest) n .0 (t .0) in
       (r .0, r .1, equal-test (length input) (frameBytes n) .0 (t .1), ltb-true i n (not-false (ltb i n) (t .2))),
   λ h.
-      false-or (outside n) (notLong input (frameBytes n)) (not (ltb i n)) (range-test 18 256 n .1 (h .0, h .1))
+      false-or (outside code n) (notLong input (frameBytes n)) (not (ltb i n)) (range-test (code .shortest) (code .longest) n .1 (h .0, h .1))
       (equal-test (length input) (frameBytes n) .1 (h .2)) (ap not (lt-ltb i n (h .3))),
 )
 
 row-good :
-    (n : ℕ) (input : List ℕ) (i : ℕ) → GoodRow n input i
-    → (rowPart n input i ≡ rowOfBytes n input i) × (length (rowOfBytes n input i) ≡ rowBytes n) × (3 ≤ rowBytes n)
+    (code : Code) (ok : Sound code) (n : ℕ) (input : List ℕ) (i : ℕ) → GoodRow code n input i
+    → (rowPart code n input i ≡ rowOfBytes n input i) × (length (rowOfBytes n input i) ≡ rowBytes n) × (1 ≤ rowBytes n)
 unfolding rowPart
-row-good n input i h =
-    let g = good-row n input i (h .0) (h .2) (h .3) in
-    (ap (λ b. pick b [] (rowOfBytes n input i)) (row-test n input i .1 h), g .0, g .1)
+row-good code ok n input i h =
+    let g = good-row code ok n input i (h .0) (h .2) (h .3) in
+    (ap (λ b. pick b [] (rowOfBytes n input i)) (row-test code n input i .1 h), g .0, g .1)
 
-row-bad : (n : ℕ) (input : List ℕ) (i : ℕ) → ¬ GoodRow n input i → rowPart n input i ≡ []
+row-bad : (code : Code) (n : ℕ) (input : List ℕ) (i : ℕ) → ¬ GoodRow code n input i → rowPart code n input i ≡ []
 unfolding rowPart
-row-bad n input i k = go (rowRefused n input i) refl
+row-bad code n input i k = go (rowRefused code n input i) refl
   where
-    go : (b : Bool) → rowRefused n input i ≡ b → pick b [] (rowOfBytes n input i) ≡ []
+    go : (b : Bool) → rowRefused code n input i ≡ b → pick b [] (rowOfBytes n input i) ≡ []
     go true q = refl
-    go false q = absurd (k (row-test n input i .0 q))
+    go false q = absurd (k (row-test code n input i .0 q))
 
-pub refuses : Refuses
+pub refuses : (code : Code) (ok : Sound code) → Refuses code
 unfolding encodeNumber encodeOutput readNumber readOutput allIn
-refuses = record {
+refuses code ok = record {
   encode = λ n input output.
-      let new : List ℕ = bytesOf n (rowsFirst n (frameOf (dataBits n) input)) in
-      plain (1 ∷ 2 ∷ 3 ∷ 5 ∷ []) refl (encodeNumber n input output) new input output (first-in (encodeRefusals n input output))
-      (λ z. bytesOf-length n (rowsFirst n (frameOf (dataBits n) input)) ∙ sym (encode-accepts n input output .0 z .0 .lent));
+      let new : List ℕ = bytesOf n (rowsFirst code n (frameOf (dataBits code n) input)) in
+      plain (1 ∷ 2 ∷ 3 ∷ 5 ∷ []) refl (encodeNumber code n input output) new input output (first-in (encodeRefusals code n input output))
+      (λ z. bytesOf-length n (rowsFirst code n (frameOf (dataBits code n) input)) ∙ sym (encode-accepts code n input output .0 z .0 .lent));
   read = λ n input output.
-      let new : List ℕ = bytesOf (dataBits n) (corner (dataBits n) (frameOf n input)) in
-      plain (1 ∷ 2 ∷ 3 ∷ 6 ∷ []) refl (readNumber n input output) new input output (first-in (readRefusals n input output))
-      (λ z. bytesOf-length (dataBits n) (corner (dataBits n) (frameOf n input)) ∙ sym (read-accepts n input output .0 z .0 .lent));
-  decode = decode-table;
-  word = word-table;
-  row = λ n input i. (row-good n input i, row-bad n input i);
+      let new : List ℕ = bytesOf (dataBits code n) (corner (dataBits code n) (frameOf n input)) in
+      plain (1 ∷ 2 ∷ 3 ∷ 6 ∷ []) refl (readNumber code n input output) new input output (first-in (readRefusals code n input output))
+      (λ z. bytesOf-length (dataBits code n) (corner (dataBits code n) (frameOf n input)) ∙ sym (read-accepts code n input output .0 z .0 .lent));
+  decode = decode-table code;
+  word = word-table code;
+  row = λ n input i. (row-good code ok n input i, row-bad code n input i);
 }

@@ -13,6 +13,7 @@ use borrow.Author.Tests.{eqb-true, eqb-false, eq-eqb, not-true}
 use Rattle.algebra.specs.Sums.{All}
 use Rattle.algebra.specs.Tables.{tab}
 use Rattle.algebra.proofs.TableLaws.{tab-zero, tab-suc, tab-ext}
+use Rattle.rules.specs.Codes.{smallCode}
 use Rattle.rules.specs.Bits.{frameOf}
 use Rattle.rules.specs.Passes.{clean, repaired, stuck, spent, decoded}
 use Rattle.rules.specs.Numbers.{pick, outside, notLong, notAllowed, frameBytes, Decoded, refused, ended, told, decodeRefusal, decodeSaid}
@@ -96,8 +97,8 @@ pub record Reports : Type 0 where
   -- a record gives what decoding says of its frame
   pub good-line :
       (k number n allowance : ℕ) (frame : List ℕ)
-      → lineText k (aRecord number n allowance frame) ≡ recordSays number (decodeSaid n allowance frame frame)
-  pub refusals : (n allowance : ℕ) (frame : List ℕ) → RefusedBy (decodeSaid n allowance frame frame)
+      → lineText k (aRecord number n allowance frame) ≡ recordSays number (decodeSaid smallCode n allowance frame frame)
+  pub refusals : (n allowance : ℕ) (frame : List ℕ) → RefusedBy (decodeSaid smallCode n allowance frame frame)
   -- of an input that broke off, the lines that an LF closed are reported as a dump of these alone would be; with none, nothing is
   pub cut-example : CutExample
   pub cut :
@@ -186,14 +187,14 @@ says number (ended repaired p f r c) = simp append-assoc
 says number (ended stuck p f r c) = simp append-assoc
 says number (ended spent p f r c) = simp append-assoc
 
-refused-by : (n allowance : ℕ) (frame : List ℕ) → RefusedBy (decodeSaid n allowance frame frame)
+refused-by : (n allowance : ℕ) (frame : List ℕ) → RefusedBy (decodeSaid smallCode n allowance frame frame)
 unfolding decodeSaid decodeRefusal
-refused-by n allowance frame = go (outside n) (notLong frame (frameBytes n)) (notAllowed allowance)
+refused-by n allowance frame = go (outside smallCode n) (notLong frame (frameBytes n)) (notAllowed allowance)
   where
     r : Bool → Bool → Bool → ℕ
     r a b c = pick a 1 (pick b 2 (pick b 3 (pick c 4 0)))
 
-    go : (a b c : Bool) → RefusedBy (pick (eqb (r a b c) 0) (told (decoded n allowance (frameOf n frame))) (refused (r a b c)))
+    go : (a b c : Bool) → RefusedBy (pick (eqb (r a b c) 0) (told (decoded smallCode n allowance (frameOf n frame))) (refused (r a b c)))
     go true b c = inl refl
     go false true c = inr (inl refl)
     go false false true = inr (inr refl)
@@ -243,7 +244,7 @@ line-one-lf : (k : ℕ) (l : Line) → (t : Text) × NoLF t × (lineText k l ≡
 unfolding every
 line-one-lf k badLine = one-lf (ascii "?") (decimal k ∷ []) (quoted-no-lf (ascii "?") refl) (decimal-no-lf k, tt)
 line-one-lf k (aRecord number n allowance frame) =
-    let d : Decoded = decodeSaid n allowance frame frame in
+    let d : Decoded = decodeSaid smallCode n allowance frame frame in
     one-lf (decimal number) (endingText d ∷ map decimal (reportedCounts d)) (decimal-no-lf number)
     (ending-no-lf d, decimals-no-lf (reportedCounts d))
 
@@ -276,7 +277,7 @@ reports = record {
   bad-header = header-bad;
   no-header = header-none;
   bad-line = λ k. refl;
-  good-line = λ k number n allowance frame. says number (decodeSaid n allowance frame frame);
+  good-line = λ k number n allowance frame. says number (decodeSaid smallCode n allowance frame frame);
   refusals = refused-by;
   cut-example = cut-shown;
   cut = cut-lines;

@@ -4,6 +4,7 @@ use Prim.Native.Nat.{_*_, _+_, _≤_}
 use native.Mathlib.Omega.{arith}
 use borrow.Author.Needs.{needs}
 use Rattle.rules.specs.Bits.{squareBytes}
+use Rattle.laws.specs.InPlace.{mostBytes}
 use Rattle.laws.proofs.CornerLaws.{row-fits}
 use Rattle.frame.proofs.corner.corner_byte.Statement.{statement}
 use Rattle.frame.proofs.corner.corner_byte.Tie as tie
@@ -11,7 +12,7 @@ use Rattle.frame.proofs.corner.corner_byte.Tie as tie
 fits :
     (c : tie.After-row-bytes) →
     let a = c .before .before .before .args in
-    (a .i * c .row-bytes .result + c .row-bytes .result ≤ squareBytes (a .n)) × (squareBytes (a .n) ≤ 8192)
+    (a .i * c .row-bytes .result + c .row-bytes .result ≤ squareBytes (a .n)) × (squareBytes (a .n) ≤ mostBytes)
 fits c =
     let a = c .before .before .before .args in
     row-fits (a .n) (c .row-bytes .result) (a .i) (c .row-bytes .ensures) (omega arith) (omega arith)

@@ -7,10 +7,12 @@ use Prim.Native.Nat.{_≤_}
 use native.Mathlib.Omega.{arith}
 use borrow.Author.Needs.{needs}
 use lib.ListN.{length}
+use Rattle.rules.specs.Codes.{lengthLimit, smallCode}
 use Rattle.rules.specs.Bits.{squareBytes}
 use Rattle.rules.specs.Numbers.{outside}
 use Rattle.rules.proofs.Laws.NumberLaws.{Sized}
-use Rattle.laws.proofs.RefusalLaws.{inside, sized}
+use Rattle.rules.proofs.Laws.SmallCode.{sound-small}
+use Rattle.laws.proofs.RefusalLaws.{not-longer, sized}
 use Rattle.laws.proofs.CornerLaws.{cornered-square, ready}
 use Rattle.laws.proofs.DecodeLaws.{refused-1, refused-2, refused-3, refused-4, Accepted, accept, as-long, copied-over}
 use Rattle.frame.proofs.ReportLaws.{refusal-said, failed, succeeded}
@@ -19,11 +21,11 @@ use Rattle.frame.proofs.decode.decode.Tie as tie
 
 -- ---- what each check leaves
 
-passed-1 : (c : tie.Else1) → outside (c .before .before .before .before .args .n) ≡ false
+passed-1 : (c : tie.Else1) → outside smallCode (c .before .before .before .before .args .n) ≡ false
 passed-1 c = sym (c .before .outside .ensures) ∙ c .if1 .left
 
-small : (c : tie.Else1) → c .before .before .before .before .args .n ≤ 256
-small c = inside _ (passed-1 c) .1
+small : (c : tie.Else1) → c .before .before .before .before .args .n ≤ lengthLimit
+small c = not-longer smallCode sound-small _ (passed-1 c)
 
 passed-2 : (c : tie.Else2) → let a = c .before .before .before .before .before .before .args in length (a .received .now) ≡ squareBytes (a .n)
 passed-2 c = c .if2 .left ∙ c .before .square-bytes .ensures
@@ -34,14 +36,14 @@ passed-3 c = c .if3 .left ∙ c .before .square-bytes2 .ensures
 all-sizes :
     (c : tie.Else3)
     → let a = c .before .before .before .before .before .before .before .before .args in
-    Sized (a .n) (a .received .now) (squareBytes (a .n)) (a .frame .now) (squareBytes (a .n))
-all-sizes c = sized _ _ _ _ _ (passed-1 (c .before .before .before .before)) (passed-2 (c .before .before)) (passed-3 c)
+    Sized smallCode (a .n) (a .received .now) (squareBytes (a .n)) (a .frame .now) (squareBytes (a .n))
+all-sizes c = sized smallCode _ _ _ _ _ (passed-1 (c .before .before .before .before)) (passed-2 (c .before .before)) (passed-3 c)
 
 all-passed :
     (c : tie.Else4)
     → let a = c .before .before .before .before .before .before .before .before .before .before .args in
-    Accepted (a .n) (a .allowance) (a .received .now) (a .frame .now)
-all-passed c = accept _ _ _ _ (all-sizes (c .before .before)) (sym (c .before .not-allowed .ensures) ∙ c .if4 .left)
+    Accepted smallCode (a .n) (a .allowance) (a .received .now) (a .frame .now)
+all-passed c = accept smallCode _ _ _ _ (all-sizes (c .before .before)) (sym (c .before .not-allowed .ensures) ∙ c .if4 .left)
 
 -- ---- the needs
 
@@ -49,7 +51,7 @@ outside-requires : tie.Need-outside-requires
 outside-requires c κs = search needs
 
 returns : tie.Need-returns
-returns c = refusal-said _ _ _ _ _ (refused-1 _ _ _ _ (sym (c .before .outside .ensures) ∙ c .if1 .taken))
+returns c = refusal-said _ _ _ _ _ (refused-1 smallCode _ _ _ _ (sym (c .before .outside .ensures) ∙ c .if1 .taken))
 
 square-bytes-requires : tie.Need-square-bytes-requires
 square-bytes-requires c κs = small c
@@ -57,7 +59,7 @@ square-bytes-requires c κs = small c
 returns-2 : tie.Need-returns-2
 returns-2 c =
     refusal-said _ _ _ _ _
-    (refused-2 _ _ _ _ (passed-1 (c .before .before)) (λ e. c .if2 .taken (e ∙ sym (c .before .square-bytes .ensures))))
+    (refused-2 smallCode _ _ _ _ (passed-1 (c .before .before)) (λ e. c .if2 .taken (e ∙ sym (c .before .square-bytes .ensures))))
 
 square-bytes-requires-2 : tie.Need-square-bytes-requires-2
 square-bytes-requires-2 c κs = small (c .before .before)
@@ -65,7 +67,7 @@ square-bytes-requires-2 c κs = small (c .before .before)
 returns-3 : tie.Need-returns-3
 returns-3 c =
     refusal-said _ _ _ _ _
-    (refused-3 _ _ _ _ (passed-1 (c .before .before .before .before)) (passed-2 (c .before .before))
+    (refused-3 smallCode _ _ _ _ (passed-1 (c .before .before .before .before)) (passed-2 (c .before .before))
     (λ e. c .if3 .taken (e ∙ sym (c .before .square-bytes2 .ensures))))
 
 not-allowed-requires : tie.Need-not-allowed-requires
@@ -74,7 +76,7 @@ not-allowed-requires c κs = search needs
 returns-4 : tie.Need-returns-4
 returns-4 c =
     refusal-said _ _ _ _ _
-    (refused-4 _ _ _ _ (all-sizes (c .before .before)) (sym (c .before .not-allowed .ensures) ∙ c .if4 .taken))
+    (refused-4 smallCode _ _ _ _ (all-sizes (c .before .before)) (sym (c .before .not-allowed .ensures) ∙ c .if4 .taken))
 
 copy-corner-requires : tie.Need-copy-corner-requires
 copy-corner-requires c κs =
@@ -83,7 +85,7 @@ copy-corner-requires c κs =
 repair-requires : tie.Need-repair-requires
 repair-requires c κs =
     let ok = all-passed (c .before .before .before .before .before) in
-    (ready _ _ _ (ok .sized .from) (ok .sized .upTo) (cornered-square _ _ _) (c .before .before .before .copy-corner .ensures), ok .some, ok .most)
+    (ready smallCode _ _ _ (ok .sized .from) (ok .sized .upTo) (cornered-square _ _ _) (c .before .before .before .copy-corner .ensures), ok .some, ok .most)
 
 is-failure-requires : tie.Need-is-failure-requires
 is-failure-requires c κs = search needs

@@ -5,7 +5,9 @@ use mathlib.Core.Path.{_≡_, refl, sym, _∙_}
 use Prim.Native.Nat.{_-_}
 use lib.ListN.{length}
 use borrow.Author.Needs.{needs}
+use Rattle.rules.specs.Codes.{smallCode}
 use Rattle.rules.specs.Bits.{frameOf}
+use Rattle.rules.proofs.Laws.SmallCode.{sound-small}
 use Rattle.rules.proofs.Laws.Shape.{frameOf-square}
 use Rattle.laws.specs.Turns.{Whole}
 use Rattle.laws.proofs.PassStepLaws.{
@@ -30,14 +32,14 @@ use Rattle.frame.proofs.decode.repair.Tie as tie
 
 abbrev Inv-loop2 : tie.InvT-loop2
 Inv-loop2 n allowance s₀ rows columns passes flips by-columns changes₀ k₀ s changes k =
-    Passing n (frameOf n s₀) by-columns s changes k
+    Passing smallCode n (frameOf n s₀) by-columns s changes k
 
 abbrev μ-loop2 : tie.MeasureT-loop2
 μ-loop2 n allowance s₀ rows columns passes flips by-columns changes₀ k₀ s changes k = n - k
 
 abbrev Inv-loop : tie.InvT-loop
 Inv-loop n allowance s₀ rows₀ columns₀ passes₀ flips₀ s rows columns passes flips =
-    Repairing n allowance (frameOf n s₀) s passes flips
+    Repairing smallCode n allowance (frameOf n s₀) s passes flips
 
 abbrev μ-loop : tie.MeasureT-loop
 μ-loop n allowance s₀ rows₀ columns₀ passes₀ flips₀ s rows columns passes flips = allowance - passes
@@ -48,8 +50,8 @@ abbrev entry : tie.At-loop2 Inv-loop2 μ-loop2 Inv-loop μ-loop → tie.Start In
 entry c = c .before .before .before .before .before .before .before .before
 
 -- in the midst of a pass
-whole : (c : tie.At-loop2 Inv-loop2 μ-loop2 Inv-loop μ-loop) → Whole (entry c .args .n) (c .loop2 .s)
-whole c = passing-whole (c .before .loop .inv) (c .loop2 .inv)
+whole : (c : tie.At-loop2 Inv-loop2 μ-loop2 Inv-loop μ-loop) → Whole smallCode (entry c .args .n) (c .loop2 .s)
+whole c = passing-whole smallCode (c .before .loop .inv) (c .loop2 .inv)
 
 -- the end of a pass, the bad words counted
 abbrev pass-end : tie.After-bad4 Inv-loop2 μ-loop2 Inv-loop μ-loop → tie.After-loop2 Inv-loop2 μ-loop2 Inv-loop μ-loop
@@ -64,12 +66,12 @@ abbrev made :
     → let p = pass-end c .before in
     let l = p .before .loop in
     let a = entry p .args in
-    Made (a .n) (a .allowance) (frameOf (a .n) (a .s .now)) (l .s) (l .passes) (l .flips) (p .loop2 .s) (p .loop2 .changes)
+    Made smallCode (a .n) (a .allowance) (frameOf (a .n) (a .s .now)) (l .s) (l .passes) (l .flips) (p .loop2 .s) (p .loop2 .changes)
     (c .before .before .bad3 .result) (c .bad4 .result)
 made c = let e = pass-end c in record {
   before = e .before .before .loop .inv;
   by-columns = _;
-  mended = passing-all (e .before .loop2 .inv) (e .loop2-test .left);
+  mended = passing-all smallCode (e .before .loop2 .inv) (e .loop2-test .left);
   rows-bad = c .before .before .bad3 .ensures .0;
   columns-bad = c .bad4 .ensures .0;
 }
@@ -95,17 +97,17 @@ returns : tie.Need-returns Inv-loop2 μ-loop2 Inv-loop μ-loop
 returns c =
     let b = c .before .before in
     let q = b .before .before .before .before .before in
-    let d = reported (ended-clean _ _ (q .args .s .now) _ _ (q .pre .0) (b .before .before .bad .ensures .0) (b .bad2 .ensures .0) (c .before .if1 .taken)) in
+    let d = reported (ended-clean smallCode _ _ (q .args .s .now) _ _ (q .pre .0) (b .before .before .bad .ensures .0) (b .bad2 .ensures .0) (c .before .if1 .taken)) in
     (c .clean .ensures ∙ d .0, d .1)
 
 loop-holds : tie.Need-loop-holds Inv-loop2 μ-loop2 Inv-loop μ-loop
 loop-holds c =
     let b = c .before in
     let q = b .before .before .before .before .before in
-    repairing-none _ _ _ (q .pre .0) (q .pre .1) (frame-not _ _ _ _ (b .before .before .bad .ensures .0) (b .bad2 .ensures .0) (c .if1 .left))
+    repairing-none smallCode _ _ _ (q .pre .0) (q .pre .1) (frame-not smallCode _ _ _ _ (b .before .before .bad .ensures .0) (b .bad2 .ensures .0) (c .if1 .left))
 
 loop2-holds : tie.Need-loop2-holds Inv-loop2 μ-loop2 Inv-loop μ-loop
-loop2-holds c = passing-none _ _ _ (c .loop .inv .ready)
+loop2-holds c = passing-none smallCode _ _ _ (c .loop .inv .ready)
 
 mend-word-requires : tie.Need-mend-word-requires Inv-loop2 μ-loop2 Inv-loop μ-loop
 mend-word-requires c κs = (whole (c .before .before), search needs)
@@ -123,7 +125,7 @@ loop2-again : tie.Need-loop2-again Inv-loop2 μ-loop2 Inv-loop μ-loop
 loop2-again c =
     let e = c .before .before .before .before in
     let m = c .before .before .mend-word .ensures in
-    passing-more (e .before .loop2 .inv) (frameOf-square _ _) (whole (e .before)) (e .loop2-test .taken) (m .0 .0) (m .0 .1) (m .1)
+    passing-more smallCode (e .before .loop2 .inv) (frameOf-square _ _) (whole (e .before)) (e .loop2-test .taken) (m .0 .0) (m .0 .1) (m .1)
 
 add-passes : tie.Need-add-passes Inv-loop2 μ-loop2 Inv-loop μ-loop
 add-passes c = search needs
@@ -149,13 +151,13 @@ loop-less c = search needs
 loop-again : tie.Need-loop-again Inv-loop2 μ-loop2 Inv-loop μ-loop
 loop-again c =
     let d = c .before .before in
-    repairing-more (made (d .before .before)) refl (d .before .if2 .left) (sym (d .is-stuck .ensures) ∙ c .before .if3 .left) (c .if4 .left)
+    repairing-more smallCode sound-small (made (d .before .before)) refl (d .before .if2 .left) (sym (d .is-stuck .ensures) ∙ c .before .if3 .left) (c .if4 .left)
 
 same-length-2 : tie.Need-same-length-2 Inv-loop2 μ-loop2 Inv-loop μ-loop
 same-length-2 c = kept (c .before)
 
 returns-2 : tie.Need-returns-2 Inv-loop2 μ-loop2 Inv-loop μ-loop
-returns-2 c = reported (ended-repaired (made (c .before)) refl (c .if2 .taken))
+returns-2 c = reported (ended-repaired smallCode sound-small (made (c .before)) refl (c .if2 .taken))
 
 same-length-3 : tie.Need-same-length-3 Inv-loop2 μ-loop2 Inv-loop μ-loop
 same-length-3 c = kept (c .before .before .before)
@@ -163,7 +165,7 @@ same-length-3 c = kept (c .before .before .before)
 returns-3 : tie.Need-returns-3 Inv-loop2 μ-loop2 Inv-loop μ-loop
 returns-3 c =
     let d = c .before in
-    reported (ended-stuck (made (d .before .before)) refl (d .before .if2 .left) (sym (d .is-stuck .ensures) ∙ c .if3 .taken))
+    reported (ended-stuck smallCode sound-small (made (d .before .before)) refl (d .before .if2 .left) (sym (d .is-stuck .ensures) ∙ c .if3 .taken))
 
 same-length-4 : tie.Need-same-length-4 Inv-loop2 μ-loop2 Inv-loop μ-loop
 same-length-4 c = kept (c .before .before .before .before)
@@ -172,7 +174,7 @@ returns-4 : tie.Need-returns-4 Inv-loop2 μ-loop2 Inv-loop μ-loop
 returns-4 c =
     let d = c .before .before in
     reported
-    (ended-spent (made (d .before .before)) refl (d .before .if2 .left) (sym (d .is-stuck .ensures) ∙ c .before .if3 .left) (c .if4 .taken))
+    (ended-spent smallCode sound-small (made (d .before .before)) refl (d .before .if2 .left) (sym (d .is-stuck .ensures) ∙ c .before .if3 .left) (c .if4 .taken))
 
 pub repair-spec : {M : Type 1} → statement M
 repair-spec =

@@ -8,28 +8,31 @@ use native.Mathlib.Omega.{arith}
 use borrow.Author.Needs.{needs}
 use borrow.Author.Tests.{not-true, not-false}
 use lib.ListN.{length}
+use Rattle.rules.specs.Codes.{smallCode}
 use Rattle.rules.specs.Numbers.{outside, dataBytes, frameBytes}
-use Rattle.rules.proofs.Laws.NumberLaws.{Sized, range-test}
+use Rattle.rules.proofs.Laws.SmallCode.{sound-small}
+use Rattle.rules.proofs.Laws.NumberLaws.{Sized}
 use Rattle.rules.proofs.Laws.Shape.{frameOf-square}
+use Rattle.laws.proofs.RefusalLaws as laws
 use Rattle.laws.proofs.EncodeLaws.{corner-ready, rows-ready, encoded, answer-1, answer-2, answer-3, answer-5, answer-0}
 use Rattle.frame.proofs.encode.encode.Statement.{statement}
 use Rattle.frame.proofs.encode.encode.Tie as tie
 
 -- what each check leaves
 
-inside : (c : tie.Else1) → outside (c .before .before .before .before .args .n) ≡ false
+inside : (c : tie.Else1) → outside smallCode (c .before .before .before .before .args .n) ≡ false
 inside c = sym (c .before .outside .ensures) ∙ c .if1 .left
 
 range : (c : tie.Else1) → let n = c .before .before .before .before .args .n in (18 ≤ n) × (n ≤ 256)
-range c = range-test 18 256 (c .before .before .before .before .args .n) .0 (inside c)
+range c = laws.inside smallCode (c .before .before .before .before .args .n) (inside c)
 
-taken : (c : tie.Else2) → let a = c .before .before .before .before .before .before .args in length (a .message .now) ≡ dataBytes (a .n)
+taken : (c : tie.Else2) → let a = c .before .before .before .before .before .before .args in length (a .message .now) ≡ dataBytes smallCode (a .n)
 taken c = c .if2 .left ∙ c .before .square-bytes .ensures
 
 sized :
     (c : tie.Else3)
     → let a = c .before .before .before .before .before .before .before .before .args in
-    Sized (a .n) (a .message .now) (dataBytes (a .n)) (a .frame .now) (frameBytes (a .n))
+    Sized smallCode (a .n) (a .message .now) (dataBytes smallCode (a .n)) (a .frame .now) (frameBytes (a .n))
 sized c =
     let r = range (c .before .before .before .before) in
     record {
@@ -43,7 +46,7 @@ outside-requires : tie.Need-outside-requires
 outside-requires c κs = search needs
 
 returns : tie.Need-returns
-returns c = answer-1 _ _ _ (sym (c .before .outside .ensures) ∙ c .if1 .taken)
+returns c = answer-1 smallCode _ _ _ (sym (c .before .outside .ensures) ∙ c .if1 .taken)
 
 sub-k : tie.Need-sub-k
 sub-k c = omega (arith, range c)
@@ -52,14 +55,14 @@ square-bytes-requires : tie.Need-square-bytes-requires
 square-bytes-requires c κs = omega (arith, range c)
 
 returns-2 : tie.Need-returns-2
-returns-2 c = answer-2 _ _ _ (inside (c .before .before)) (λ e. c .if2 .taken (e ∙ sym (c .before .square-bytes .ensures)))
+returns-2 c = answer-2 smallCode _ _ _ (inside (c .before .before)) (λ e. c .if2 .taken (e ∙ sym (c .before .square-bytes .ensures)))
 
 square-bytes-requires-2 : tie.Need-square-bytes-requires-2
-square-bytes-requires-2 c κs = range (c .before .before) .1
+square-bytes-requires-2 c κs = omega (arith, range (c .before .before) .1)
 
 returns-3 : tie.Need-returns-3
 returns-3 c =
-    answer-3 _ _ _ (inside (c .before .before .before .before)) (taken (c .before .before))
+    answer-3 smallCode _ _ _ (inside (c .before .before .before .before)) (taken (c .before .before))
     (λ e. c .if3 .taken (e ∙ sym (c .before .square-bytes2 .ensures)))
 
 is-packed-requires : tie.Need-is-packed-requires
@@ -67,7 +70,7 @@ is-packed-requires c κs = let f = sized c in omega (arith, f .from, f .upTo, f 
 
 returns-4 : tie.Need-returns-4
 returns-4 c =
-    answer-5 _ _ _ (sized (c .before .before)) (sym (c .before .is-packed .ensures) ∙ not-true _ (c .if4 .taken))
+    answer-5 smallCode _ _ _ (sized (c .before .before)) (sym (c .before .is-packed .ensures) ∙ not-true _ (c .if4 .taken))
 
 copy-corner-requires : tie.Need-copy-corner-requires
 copy-corner-requires c κs =
@@ -78,14 +81,14 @@ encode-words-requires : tie.Need-encode-words-requires
 encode-words-requires c κs =
     let b = c .before .before .before in
     let f = sized (b .before .before .before .before) in
-    (corner-ready _ _ _ (f .from) (f .upTo) (frameOf-square _ _) (b .copy-corner .ensures), omega (arith, f .from))
+    (corner-ready smallCode sound-small _ _ _ (f .from) (f .upTo) (frameOf-square _ _) (b .copy-corner .ensures), omega (arith, f .from))
 
 encode-words-requires-2 : tie.Need-encode-words-requires-2
 encode-words-requires-2 c κs =
     let w = c .before .before .before in
     let b = w .before .before .before .before in
     let f = sized (b .before .before .before .before) in
-    (rows-ready _ _ _ (f .from) (f .upTo) (frameOf-square _ _) (b .copy-corner .ensures) _ (w .encode-words .ensures), omega (arith, f .from))
+    (rows-ready smallCode sound-small _ _ _ (f .from) (f .upTo) (frameOf-square _ _) (b .copy-corner .ensures) _ (w .encode-words .ensures), omega (arith, f .from))
 
 same-length : tie.Need-same-length
 same-length c = search needs
@@ -96,8 +99,8 @@ returns-5 c =
     let w = v .before .before .before .before in
     let b = w .before .before .before .before in
     let f = sized (b .before .before .before .before) in
-    answer-0 _ _ _ f (sym (b .before .before .before .is-packed .ensures) ∙ not-false _ (b .before .before .if4 .left))
-    (encoded _ _ _ (f .from) (f .upTo) (frameOf-square _ _) (b .copy-corner .ensures) _ (w .encode-words .ensures) _
+    answer-0 smallCode _ _ _ f (sym (b .before .before .before .is-packed .ensures) ∙ not-false _ (b .before .before .if4 .left))
+    (encoded smallCode sound-small _ _ _ (f .from) (f .upTo) (frameOf-square _ _) (b .copy-corner .ensures) _ (w .encode-words .ensures) _
     (v .encode-words2 .ensures))
 
 pub encode-spec : {M : Type 1} → statement M

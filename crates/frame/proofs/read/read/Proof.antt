@@ -4,6 +4,7 @@ use mathlib.Core.Path.{_≡_, sym, _∙_}
 use mathlib.Core.Bool.{false}
 use native.Mathlib.Omega.{arith}
 use borrow.Author.Needs.{needs}
+use Rattle.rules.specs.Codes.{smallCode}
 use Rattle.rules.specs.Numbers.{outside, frameBytes, dataBytes}
 use Rattle.rules.proofs.Laws.NumberLaws.{Sized}
 use Rattle.laws.proofs.RefusalLaws.{inside, sized}
@@ -12,17 +13,17 @@ use Rattle.frame.proofs.read.read.Statement.{statement}
 use Rattle.frame.proofs.read.read.Tie as tie
 
 -- past the first check
-allowed : (c : tie.Else1) → outside (c .before .before .before .before .args .n) ≡ false
+allowed : (c : tie.Else1) → outside smallCode (c .before .before .before .before .args .n) ≡ false
 allowed c = sym (c .before .outside .ensures) ∙ c .if1 .left
 
 -- past the first three
 fits :
     (c : tie.Else3) →
     let a = c .before .before .before .before .before .before .before .before .args in
-    Sized (a .n) (a .frame .now) (frameBytes (a .n)) (a .message .now) (dataBytes (a .n))
+    Sized smallCode (a .n) (a .frame .now) (frameBytes (a .n)) (a .message .now) (dataBytes smallCode (a .n))
 fits c =
     let a = c .before .before .before .before .before .before .before .before .args in
-    sized (a .n) (a .frame .now) (frameBytes (a .n)) (a .message .now) (dataBytes (a .n)) (allowed (c .before .before .before .before))
+    sized smallCode (a .n) (a .frame .now) (frameBytes (a .n)) (a .message .now) (dataBytes smallCode (a .n)) (allowed (c .before .before .before .before))
     (c .before .before .if2 .left ∙ c .before .before .before .square-bytes .ensures) (c .if3 .left ∙ c .before .square-bytes2 .ensures)
 
 outside-requires : tie.Need-outside-requires
@@ -31,28 +32,28 @@ outside-requires c κs = search needs
 returns : tie.Need-returns
 returns c =
     let a = c .before .before .before .before .args in
-    read-1 (a .n) (a .frame .now) (a .message .now) (sym (c .before .outside .ensures) ∙ c .if1 .taken)
+    read-1 smallCode (a .n) (a .frame .now) (a .message .now) (sym (c .before .outside .ensures) ∙ c .if1 .taken)
 
 sub-k : tie.Need-sub-k
-sub-k c = omega (arith, inside (c .before .before .before .before .args .n) (allowed c))
+sub-k c = omega (arith, inside smallCode (c .before .before .before .before .args .n) (allowed c))
 
 square-bytes-requires : tie.Need-square-bytes-requires
-square-bytes-requires c κs = omega (arith, inside (c .before .before .before .before .args .n) (allowed c))
+square-bytes-requires c κs = omega (arith, inside smallCode (c .before .before .before .before .args .n) (allowed c))
 
 returns-2 : tie.Need-returns-2
 returns-2 c =
     let a = c .before .before .before .before .before .before .args in
-    read-2 (a .n) (a .frame .now) (a .message .now) (allowed (c .before .before))
+    read-2 smallCode (a .n) (a .frame .now) (a .message .now) (allowed (c .before .before))
     (λ e. c .if2 .taken (e ∙ sym (c .before .square-bytes .ensures)))
 
 square-bytes-requires-2 : tie.Need-square-bytes-requires-2
 square-bytes-requires-2 c κs =
-    omega (arith, inside (c .before .before .before .before .before .before .args .n) (allowed (c .before .before)))
+    omega (arith, inside smallCode (c .before .before .before .before .before .before .args .n) (allowed (c .before .before)))
 
 returns-3 : tie.Need-returns-3
 returns-3 c =
     let a = c .before .before .before .before .before .before .before .before .args in
-    read-3 (a .n) (a .frame .now) (a .message .now) (allowed (c .before .before .before .before))
+    read-3 smallCode (a .n) (a .frame .now) (a .message .now) (allowed (c .before .before .before .before))
     (c .before .before .if2 .left ∙ c .before .before .before .square-bytes .ensures)
     (λ e. c .if3 .taken (e ∙ sym (c .before .square-bytes2 .ensures)))
 
@@ -68,7 +69,7 @@ add-if4 c = search needs
 returns-4 : tie.Need-returns-4
 returns-4 c =
     let a = c .before .before .before .before .before .before .before .before .before .before .before .args in
-    read-6 (a .n) (a .frame .now) (a .message .now) (fits (c .before .before .before)) _ _ (c .before .before .bad .ensures .0)
+    read-6 smallCode (a .n) (a .frame .now) (a .message .now) (fits (c .before .before .before)) _ _ (c .before .before .bad .ensures .0)
     (c .before .bad2 .ensures .0) (c .if4 .taken)
 
 copy-corner-requires : tie.Need-copy-corner-requires
@@ -81,7 +82,7 @@ returns-5 : tie.Need-returns-5
 returns-5 c =
     let f = c .before .before .before .before .before .before .before in
     let a = f .before .before .before .before .before .before .before .before .args in
-    read-0 (a .n) (a .frame .now) (a .message .now) (fits f) _ _ (c .before .before .before .before .before .before .bad .ensures .0)
+    read-0 smallCode (a .n) (a .frame .now) (a .message .now) (fits f) _ _ (c .before .before .before .before .before .before .bad .ensures .0)
     (c .before .before .before .before .before .bad2 .ensures .0) (c .before .before .before .before .if4 .left) _
     (c .before .before .copy-corner .ensures)
 

@@ -6,7 +6,10 @@ use Prim.Native.Nat.{_*_, _+_, _≤_}
 use native.Mathlib.Omega.{arith}
 use lib.ListN.{length}
 use borrow.Author.Needs.{needs}
+use Rattle.rules.specs.Codes.{smallCode}
 use Rattle.rules.specs.Numbers.{rowRefused}
+use Rattle.rules.proofs.Laws.SmallCode.{sound-small}
+use Rattle.laws.specs.InPlace.{mostBytes}
 use Rattle.laws.proofs.CornerLaws.{row-fits}
 use Rattle.laws.proofs.ReadLaws.{row-known, row-none, row-part}
 use Rattle.frame.proofs.row.row.Statement.{statement}
@@ -15,17 +18,17 @@ use Rattle.frame.proofs.row.row.Tie as tie
 taken :
     (c : tie.Else1) →
     let a = c .before .before .before .args in
-    rowRefused (a .n) (a .frame .now) (a .i) ≡ false
+    rowRefused smallCode (a .n) (a .frame .now) (a .i) ≡ false
 taken c = sym (c .before .is-refused .ensures) ∙ c .if1 .left
 
 -- the row's end
 fits :
     (c : tie.After-row-bytes) →
     let a = c .before .before .before .before .args in
-    (a .i * c .row-bytes .result + c .row-bytes .result ≤ length (a .frame .now)) × (length (a .frame .now) ≤ 8192)
+    (a .i * c .row-bytes .result + c .row-bytes .result ≤ length (a .frame .now)) × (length (a .frame .now) ≤ mostBytes)
 fits c =
     let a = c .before .before .before .before .args in
-    let k = row-known (a .n) (a .frame .now) (a .i) (taken (c .before)) in
+    let k = row-known smallCode (a .n) (a .frame .now) (a .i) sound-small (taken (c .before)) in
     omega (arith, row-fits (a .n) (c .row-bytes .result) (a .i) (c .row-bytes .ensures) (k .0) (k .2))
 
 is-refused-requires : tie.Need-is-refused-requires
@@ -41,11 +44,11 @@ part-result-end : tie.Need-part-result-end
 part-result-end c = search needs
 
 returns : tie.Need-returns
-returns c = row-none _ _ _ (sym (c .before .before .is-refused .ensures) ∙ c .before .if1 .taken)
+returns c = row-none smallCode _ _ _ (sym (c .before .before .is-refused .ensures) ∙ c .before .if1 .taken)
 
 row-bytes-requires : tie.Need-row-bytes-requires
 row-bytes-requires c κs =
-    let a = c .before .before .before .args in row-known (a .n) (a .frame .now) (a .i) (taken c) .0
+    let a = c .before .before .before .args in row-known smallCode (a .n) (a .frame .now) (a .i) sound-small (taken c) .0
 
 mul-from : tie.Need-mul-from
 mul-from c = omega (arith, fits c)
@@ -65,7 +68,7 @@ part-result-end-2 c = omega (arith, fits c)
 returns-2 : tie.Need-returns-2
 returns-2 c =
     let a = c .before .before .before .before .before .args in
-    row-part (a .n) (a .frame .now) (a .i) (c .before .row-bytes .result) (c .before .row-bytes .ensures) (taken (c .before .before))
+    row-part smallCode (a .n) (a .frame .now) (a .i) (c .before .row-bytes .result) (c .before .row-bytes .ensures) (taken (c .before .before))
 
 pub row-spec : {M : Type 1} → statement M
 row-spec =

@@ -1,4 +1,4 @@
--- `frame::sizes::square_bytes` meets its contract: the product is at most 8192.
+-- `frame::sizes::square_bytes` meets its contract: the product is that of the longest frame at most.
 -- Assumes nothing.
 use mathlib.Core.Path.{ap}
 use Prim.Native.Nat.{ℕ, _*_}

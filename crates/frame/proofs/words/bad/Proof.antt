@@ -5,7 +5,9 @@ use mathlib.Core.Logic.{⊎-elim}
 use Prim.Native.Nat.{_-_, _≤_}
 use native.Mathlib.Omega.{arith}
 use borrow.Author.Needs.{needs}
+use Rattle.rules.specs.Codes.{smallCode}
 use Rattle.rules.specs.Bits.{frameOf}
+use Rattle.rules.proofs.Laws.SmallCode.{sound-small}
 use Rattle.laws.specs.Turns.{turned}
 use Rattle.laws.proofs.PassStepLaws.{badFirst, bad-none, bad-all, bad-more, bad-same, inside-here, checks-here}
 use Rattle.frame.proofs.words.bad.Statement.{statement}
@@ -13,7 +15,7 @@ use Rattle.frame.proofs.words.bad.Tie as tie
 
 abbrev Inv-loop : tie.InvT-loop
 Inv-loop n s columns by found₀ k₀ found k =
-    (k ≤ n) × (found ≤ k) × (found ≡ badFirst n (turned n columns (frameOf n s)) k)
+    (k ≤ n) × (found ≤ k) × (found ≡ badFirst smallCode n (turned n columns (frameOf n s)) k)
 
 abbrev μ-loop : tie.MeasureT-loop
 μ-loop n s columns by found₀ k₀ found k = n - k
@@ -22,7 +24,7 @@ step-requires : tie.Need-step-requires Inv-loop μ-loop
 step-requires c κs = search needs
 
 loop-holds : tie.Need-loop-holds Inv-loop μ-loop
-loop-holds c = (search needs, search needs, bad-none _ _)
+loop-holds c = (search needs, search needs, bad-none smallCode _ _)
 
 start-requires : tie.Need-start-requires Inv-loop μ-loop
 start-requires c κs = search needs
@@ -30,8 +32,8 @@ start-requires c κs = search needs
 checks-requires : tie.Need-checks-requires Inv-loop μ-loop
 checks-requires c κs =
     let a = c .before .before .before .before .before .args in
-    inside-here (a .n) (a .s .now) (a .columns) _ _ _ (c .start .ensures) (c .before .before .before .step .ensures) (c .before .loop-test .taken)
-    (c .before .before .before .before .before .pre)
+    inside-here smallCode (a .n) (a .s .now) (a .columns) _ _ _ (c .start .ensures) (c .before .before .before .step .ensures) (c .before .loop-test .taken)
+    sound-small (c .before .before .before .before .before .pre)
 
 add-found : tie.Need-add-found Inv-loop μ-loop
 add-found c = search needs
@@ -47,16 +49,16 @@ loop-again c =
     let a = c .before .before .before .before .before .before .before .args in
     let l = c .before .before .before .before .loop in
     let is =
-    checks-here (a .n) (a .s .now) (a .columns) (l .k) _ _ (c .before .before .start .ensures)
+    checks-here smallCode (a .n) (a .s .now) (a .columns) (l .k) _ _ (c .before .before .start .ensures)
     (c .before .before .before .before .before .step .ensures) (c .before .before .before .loop-test .taken) _
     (c .before .checks .ensures .0) in
-    ⊎-elim (λ w. omega (arith, bad-more _ _ _ _ is (w .0 .taken))) (λ w. omega (arith, bad-same _ _ _ _ is (w .0 .left))) (c .if1 .came)
+    ⊎-elim (λ w. omega (arith, bad-more smallCode _ _ _ _ is (w .0 .taken))) (λ w. omega (arith, bad-same smallCode _ _ _ _ is (w .0 .left))) (c .if1 .came)
 
 returns : tie.Need-returns Inv-loop μ-loop
 returns c =
     let a = c .before .before .before .before .args in
     let all : c .before .loop .k ≡ a .n = omega arith in
-    (c .before .loop .inv .2 ∙ ap (badFirst (a .n) _) all ∙ bad-all _ _, omega arith)
+    (c .before .loop .inv .2 ∙ ap (badFirst smallCode (a .n) _) all ∙ bad-all smallCode _ _, omega arith)
 
 pub bad-spec : {M : Type 1} → statement M
 bad-spec =

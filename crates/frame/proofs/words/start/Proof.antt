@@ -4,6 +4,8 @@ use native.Mathlib.Nat.{mul-le-mul}
 use native.Mathlib.Omega.{arith}
 use Prim.Native.Nat.{_≤_, _*_}
 use borrow.Author.Needs.{needs}
+use Rattle.rules.specs.Codes.{lengthLimit}
+use Rattle.rules.specs.Bits.{rowBytes}
 use Rattle.laws.proofs.TurnLaws.{start-down, start-across}
 use Rattle.frame.proofs.words.start.Statement.{statement}
 use Rattle.frame.proofs.words.start.Tie as tie
@@ -16,7 +18,7 @@ mul-result c = search needs
 
 mul-result-2 : tie.Need-mul-result-2
 mul-result-2 c =
-    let w : c .row-bytes .result * 8 ≤ 264 = omega arith in omega (arith, mul-le-mul (c .before .before .pre .1) w)
+    let w : c .row-bytes .result * 8 ≤ rowBytes lengthLimit * 8 = omega arith in omega (arith, mul-le-mul (c .before .before .pre .1) w)
 
 returns : tie.Need-returns
 returns c = start-down _ _ _ (c .if1 .taken)

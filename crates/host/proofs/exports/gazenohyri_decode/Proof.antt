@@ -1,6 +1,7 @@
 -- `exports::gazenohyri_decode` meets its contract: what decode says has room, whatever the arguments.
 -- Assumes nothing.
 use borrow.Author.Needs.{needs}
+use Rattle.rules.specs.Codes.{smallCode}
 use Rattle.rules.specs.Numbers.{decodeSaid}
 use Rattle.rules.proofs.Promises.Packing.{packs}
 use Rattle.host.proofs.PackLaws.{fits-said, packed-said}
@@ -13,7 +14,7 @@ decode-requires c κs = search needs
 pack-decoded-requires : tie.Need-pack-decoded-requires
 pack-decoded-requires c κs =
     let a = c .before .before .before .before .before .before .args in
-    fits-said (decodeSaid (a .n) (a .allowance) (a .received .now) (a .frame .now)) _ (c .before .before .decode .ensures .0)
+    fits-said (decodeSaid smallCode (a .n) (a .allowance) (a .received .now) (a .frame .now)) _ (c .before .before .decode .ensures .0)
     (packs .fits (a .n) (a .allowance) (a .received .now) (a .frame .now))
 
 same-length : tie.Need-same-length
@@ -23,7 +24,7 @@ returns : tie.Need-returns
 returns c =
     let a = c .before .before .before .before .before .before .before .args in
     let d = c .before .before .before .decode .ensures in (
-      packed-said (decodeSaid (a .n) (a .allowance) (a .received .now) (a .frame .now)) _ _ (d .0) (c .pack-decoded .ensures),
+      packed-said (decodeSaid smallCode (a .n) (a .allowance) (a .received .now) (a .frame .now)) _ _ (d .0) (c .pack-decoded .ensures),
       d .1,
     )
 

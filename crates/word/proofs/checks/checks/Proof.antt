@@ -5,13 +5,15 @@ use Prim.Native.Nat.{_≤_, _-_}
 use native.Mathlib.Omega.{arith}
 use borrow.Author.Needs.{needs}
 use Rattle.algebra.proofs.Digits.{num-le}
+use Rattle.rules.specs.Codes.{smallCode}
 use Rattle.rules.specs.Bits.{bitAt}
+use Rattle.rules.proofs.Laws.SmallCode.{sound-small}
 use Rattle.laws.proofs.CheckLoopLaws.{Passed, passed-none, passed-more, passed-all, passed-inside, passed-next}
 use Rattle.word.proofs.checks.checks.Statement.{statement}
 use Rattle.word.proofs.checks.checks.Tie as tie
 
 abbrev Inv-loop : tie.InvT-loop
-Inv-loop n s start step remainder₀ ones₀ x₀ j₀ j-end remainder ones x j = (j ≤ n - 1) × (j-end ≡ n - 1) × Passed s start step j remainder ones x
+Inv-loop n s start step remainder₀ ones₀ x₀ j₀ j-end remainder ones x j = (j ≤ n - 1) × (j-end ≡ n - 1) × Passed smallCode s start step j remainder ones x
 
 abbrev μ-loop : tie.MeasureT-loop
 μ-loop n s start step remainder₀ ones₀ x₀ j₀ j-end remainder ones x j = n - 1 - j
@@ -22,13 +24,13 @@ sub-j-end c = search needs
 loop-holds : tie.Need-loop-holds Inv-loop μ-loop
 loop-holds c =
     let a = c .before .args in
-    (omega arith, search needs, passed-none (a .s .now) (a .start) (a .step))
+    (omega arith, search needs, passed-none smallCode (a .s .now) (a .start) (a .step))
 
 bit-requires : tie.Need-bit-requires Inv-loop μ-loop
 bit-requires c κs =
     let a = c .before .before .before .args in
     let l = c .before .loop in
-    passed-inside (a .n) (a .s .now) (a .start) (a .step) (l .j) (l .remainder) (l .ones) (l .x) (c .before .before .before .pre) (l .inv .2) (omega arith)
+    passed-inside smallCode (a .n) (a .s .now) (a .start) (a .step) (l .j) (l .remainder) (l .ones) (l .x) (c .before .before .before .pre) (l .inv .2) (omega arith)
 
 shifted-requires : tie.Need-shifted-requires Inv-loop μ-loop
 shifted-requires c κs = omega (arith, num-le (bitAt (c .before .before .before .before .args .s .now) (c .before .before .loop .x)))
@@ -42,7 +44,7 @@ add-x c =
     let l = c .before .before .before .loop in
     omega (
       arith,
-      passed-next (a .n) (a .s .now) (a .start) (a .step) (l .j) (l .remainder) (l .ones) (l .x) (c .before .before .before .before .before .pre) (l .inv .2) (omega arith),
+      passed-next smallCode (a .n) (a .s .now) (a .start) (a .step) (l .j) (l .remainder) (l .ones) (l .x) (c .before .before .before .before .before .pre) (l .inv .2) (omega arith),
     )
 
 add-j : tie.Need-add-j Inv-loop μ-loop
@@ -57,7 +59,7 @@ loop-again c =
     let l = c .before .before .before .loop in (
       omega arith,
       l .inv .1,
-      passed-more (a .s .now) (a .start) (a .step) (l .j) (l .remainder) (l .ones) (l .x) (c .before .bit .result) (c .shifted .result) (l .inv .2) (c .before .bit .ensures) (c .shifted .ensures .0),
+      passed-more smallCode sound-small (a .s .now) (a .start) (a .step) (l .j) (l .remainder) (l .ones) (l .x) (c .before .bit .result) (c .shifted .result) (l .inv .2) (c .before .bit .ensures) (c .shifted .ensures .0),
     )
 
 mul-result : tie.Need-mul-result Inv-loop μ-loop
@@ -67,7 +69,7 @@ bit-requires-2 : tie.Need-bit-requires-2 Inv-loop μ-loop
 bit-requires-2 c κs =
     let a = c .before .before .before .args in
     let l = c .before .loop in
-    passed-inside (a .n) (a .s .now) (a .start) (a .step) (l .j) (l .remainder) (l .ones) (l .x) (c .before .before .before .pre) (l .inv .2) (omega arith)
+    passed-inside smallCode (a .n) (a .s .now) (a .start) (a .step) (l .j) (l .remainder) (l .ones) (l .x) (c .before .before .before .pre) (l .inv .2) (omega arith)
 
 add-result : tie.Need-add-result Inv-loop μ-loop
 add-result c = omega (arith, num-le (bitAt (c .before .before .before .before .args .s .now) (c .before .before .loop .x)))

@@ -5,10 +5,12 @@ use mathlib.Core.Logic.{⊎-elim}
 use mathlib.Core.Bool.{false}
 use native.Mathlib.Omega.{arith}
 use borrow.Author.Needs.{needs}
+use Rattle.rules.specs.Codes.{smallCode}
 use Rattle.rules.specs.Bits.{rowBytes}
 use Rattle.rules.specs.Numbers.{outside}
+use Rattle.rules.proofs.Laws.SmallCode.{sound-small}
 use Rattle.rules.proofs.Laws.NumberLaws.{Sized}
-use Rattle.laws.proofs.RefusalLaws.{inside, sized}
+use Rattle.laws.proofs.RefusalLaws.{not-longer, sized}
 use Rattle.laws.proofs.WordBytesLaws.{word-fits, word-1, word-2, word-3}
 use Rattle.word.specs.Said.{saidOf}
 use Rattle.word.proofs.SaidLaws.{accepted, kept}
@@ -16,17 +18,17 @@ use Rattle.word.proofs.decode.decode_word.Statement.{statement}
 use Rattle.word.proofs.decode.decode_word.Tie as tie
 
 -- past the first check
-allowed : (c : tie.Else1) → outside (c .before .before .before .before .args .n) ≡ false
+allowed : (c : tie.Else1) → outside smallCode (c .before .before .before .before .args .n) ≡ false
 allowed c = sym (c .before .outside .ensures) ∙ c .if1 .left
 
 -- past all three
 fits :
     (c : tie.Else3) →
     let a = c .before .before .before .before .before .before .before .before .args in
-    Sized (a .n) (a .received .now) (rowBytes (a .n)) (a .word .now) (rowBytes (a .n))
+    Sized smallCode (a .n) (a .received .now) (rowBytes (a .n)) (a .word .now) (rowBytes (a .n))
 fits c =
     let a = c .before .before .before .before .before .before .before .before .args in
-    sized (a .n) (a .received .now) (rowBytes (a .n)) (a .word .now) (rowBytes (a .n)) (allowed (c .before .before .before .before))
+    sized smallCode (a .n) (a .received .now) (rowBytes (a .n)) (a .word .now) (rowBytes (a .n)) (allowed (c .before .before .before .before))
     (c .before .before .if2 .left ∙ c .before .before .before .row-bytes .ensures) (c .if3 .left ∙ c .before .row-bytes2 .ensures)
 
 outside-requires : tie.Need-outside-requires
@@ -35,39 +37,40 @@ outside-requires c κs = search needs
 returns : tie.Need-returns
 returns c =
     let a = c .before .before .before .before .args in
-    let e = word-1 (a .n) (a .received .now) (a .word .now) (sym (c .before .outside .ensures) ∙ c .if1 .taken) in
+    let e = word-1 smallCode (a .n) (a .received .now) (a .word .now) (sym (c .before .outside .ensures) ∙ c .if1 .taken) in
     (ap saidOf (e .0), e .1)
 
 row-bytes-requires : tie.Need-row-bytes-requires
-row-bytes-requires c κs = inside (c .before .before .before .before .args .n) (allowed c) .1
+row-bytes-requires c κs = not-longer smallCode sound-small (c .before .before .before .before .args .n) (allowed c)
 
 returns-2 : tie.Need-returns-2
 returns-2 c =
     let a = c .before .before .before .before .before .before .args in
     let e =
-    word-2 (a .n) (a .received .now) (a .word .now) (allowed (c .before .before))
+    word-2 smallCode (a .n) (a .received .now) (a .word .now) (allowed (c .before .before))
     (λ e. c .if2 .taken (e ∙ sym (c .before .row-bytes .ensures))) in
     (ap saidOf (e .0), e .1)
 
 row-bytes-requires-2 : tie.Need-row-bytes-requires-2
-row-bytes-requires-2 c κs = inside (c .before .before .before .before .before .before .args .n) (allowed (c .before .before)) .1
+row-bytes-requires-2 c κs =
+    not-longer smallCode sound-small (c .before .before .before .before .before .before .args .n) (allowed (c .before .before))
 
 returns-3 : tie.Need-returns-3
 returns-3 c =
     let a = c .before .before .before .before .before .before .before .before .args in
     let e =
-    word-3 (a .n) (a .received .now) (a .word .now) (allowed (c .before .before .before .before))
+    word-3 smallCode (a .n) (a .received .now) (a .word .now) (allowed (c .before .before .before .before))
     (c .before .before .if2 .left ∙ c .before .before .before .row-bytes .ensures)
     (λ e. c .if3 .taken (e ∙ sym (c .before .row-bytes2 .ensures))) in
     (ap saidOf (e .0), e .1)
 
 copy-word-requires : tie.Need-copy-word-requires
-copy-word-requires c κs = let f = fits (c .before) in (f .upTo, f .taken, f .lent)
+copy-word-requires c κs = let f = fits (c .before) in (omega (arith, f .upTo), f .taken, f .lent)
 
 mend-requires : tie.Need-mend-requires
 mend-requires c κs =
     let f = c .before .before .before .before .before in
-    word-fits (f .before .before .before .before .before .before .before .before .args .n) _ _ (allowed (f .before .before .before .before))
+    word-fits smallCode sound-small (f .before .before .before .before .before .before .before .before .args .n) _ _ (allowed (f .before .before .before .before))
     (c .before .before .before .copy-word .ensures)
 
 enum-told : tie.Need-enum-told

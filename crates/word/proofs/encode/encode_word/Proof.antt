@@ -10,9 +10,11 @@ use Rattle.algebra.specs.Xor.{_⊕_}
 use Rattle.laws.proofs.SettleLaws.{Settling, places-fit, settle-start, settle-flip, settle-keep, settle-end-flip, settle-end-keep}
 use Rattle.word.proofs.encode.encode_word.Statement.{statement}
 use Rattle.word.proofs.encode.encode_word.Tie as tie
+use Rattle.rules.specs.Codes.{smallCode}
+use Rattle.rules.proofs.Laws.SmallCode.{sound-small}
 
 abbrev Inv-loop : tie.InvT-loop
-Inv-loop n s₀ start step left₀ v₀ x₀ j₀ s left v x j = Settling n s₀ start step j s left v x
+Inv-loop n s₀ start step left₀ v₀ x₀ j₀ s left v x j = Settling smallCode n s₀ start step j s left v x
 
 abbrev μ-loop : tie.MeasureT-loop
 μ-loop n s₀ start step left₀ v₀ x₀ j₀ s left v x j = 16 - j
@@ -26,15 +28,15 @@ sub-x c = search needs
 mul-x : tie.Need-mul-x Inv-loop μ-loop
 mul-x c =
     let b = c .before .before .before in
-    omega (arith, places-fit (b .args .n) (b .args .s .now) (b .args .start) (b .args .step) (b .pre))
+    omega (arith, places-fit smallCode sound-small (b .args .n) (b .args .s .now) (b .args .start) (b .args .step) (b .pre))
 
 add-x : tie.Need-add-x Inv-loop μ-loop
 add-x c =
     let b = c .before .before .before in
-    omega (arith, places-fit (b .args .n) (b .args .s .now) (b .args .start) (b .args .step) (b .pre))
+    omega (arith, places-fit smallCode sound-small (b .args .n) (b .args .s .now) (b .args .start) (b .args .step) (b .pre))
 
 loop-holds : tie.Need-loop-holds Inv-loop μ-loop
-loop-holds c = settle-start _ _ _ _ _ (c .before .before .before .pre) (c .checks .ensures .0)
+loop-holds c = settle-start smallCode sound-small _ _ _ _ _ (c .before .before .before .pre) (c .checks .ensures .0)
 
 flip-requires : tie.Need-flip-requires Inv-loop μ-loop
 flip-requires c κs = search needs
@@ -57,8 +59,8 @@ loop-again c =
     let inv = c .before .before .loop .inv in
     let turn = c .before .loop-test .taken in
     ⊎-elim
-    (λ w. settle-flip inv turn (w .0 .taken) (w .5 ∙ w .2 .ensures) (w .6))
-    (λ w. settle-keep inv turn (w .0 .left) (w .1) (w .2))
+    (λ w. settle-flip smallCode sound-small inv turn (w .0 .taken) (w .5 ∙ w .2 .ensures) (w .6))
+    (λ w. settle-keep smallCode sound-small inv turn (w .0 .left) (w .1) (w .2))
     (c .if1 .came)
 
 flip-requires-2 : tie.Need-flip-requires-2 Inv-loop μ-loop
@@ -70,13 +72,13 @@ same-length c = search needs
 returns : tie.Need-returns Inv-loop μ-loop
 returns c =
     let b = c .before .before .before .before in
-    c .before .before .flip2 .ensures ∙ settle-end-flip (b .before .before .loop .inv) (b .before .loop-test .left) (b .if2 .taken)
+    c .before .before .flip2 .ensures ∙ settle-end-flip smallCode sound-small (b .before .before .loop .inv) (b .before .loop-test .left) (b .if2 .taken)
 
 same-length-2 : tie.Need-same-length-2 Inv-loop μ-loop
 same-length-2 c = search needs
 
 returns-2 : tie.Need-returns-2 Inv-loop μ-loop
-returns-2 c = settle-end-keep (c .before .before .loop .inv) (c .before .loop-test .left) (c .if2 .left)
+returns-2 c = settle-end-keep smallCode sound-small (c .before .before .loop .inv) (c .before .loop-test .left) (c .if2 .left)
 
 pub encode-word-spec : {M : Type 1} → statement M
 encode-word-spec =

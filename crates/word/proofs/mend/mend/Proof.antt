@@ -1,13 +1,16 @@
 -- `mend::mend`: the places that the answer names lie within the word, and flipping them puts the mended word there.
 -- Assumes nothing.
 use mathlib.Core.Path.{_≡_, refl, sym, ap, _∙_}
-use mathlib.Core.List.{List, [], _∷_}
+use mathlib.Core.List.{List}
 use Prim.Native.Nat.{ℕ, _+_, _*_, _<_}
 use native.Mathlib.Omega.{arith}
 use borrow.Author.Needs.{needs}
 use lib.ListN.{length}
+use Rattle.rules.specs.Codes.{smallCode}
 use Rattle.rules.specs.Words as rules
+use Rattle.rules.proofs.Laws.SmallCode.{sound-small}
 use Rattle.rules.proofs.Laws.PatternLaws.{Rising}
+use Rattle.rules.proofs.Promises.CountBounds.{mend-flips}
 use Rattle.laws.specs.InPlace.{wordAt, flipAt, put, Inside}
 use Rattle.laws.proofs.InPlaceLaws.{Bytes, wordAt-length}
 use Rattle.laws.proofs.CheckLoopLaws.{place-inside}
@@ -15,46 +18,37 @@ use Rattle.laws.proofs.MendLaws.{flips, places-rise, located-answer, mend-in-pl
 use Rattle.word.specs.Said.{answerOf}
 use Rattle.word.specs.declared.locate.Answer.{Answer}
 use Rattle.word.specs.declared.locate.Answer.the-variants.{Codeword, OnePlace, TwoPlaces, Beyond}
+use Rattle.word.proofs.SaidLaws.{named, told-named}
 use Rattle.word.proofs.mend.mend.Statement.{statement}
 use Rattle.word.proofs.mend.mend.Tie as tie
 
--- the places that an answer names
-abbrev named : Answer → List ℕ
-named Codeword = []
-named (OnePlace p) = p ∷ []
-named (TwoPlaces p q) = p ∷ q ∷ []
-named Beyond = []
-
-told-named : (a : rules.Answer) → rules.places a ≡ named (answerOf a)
-told-named rules.codeword = refl
-told-named (rules.onePlace p) = refl
-told-named (rules.twoPlaces p q) = refl
-told-named rules.beyond = refl
-
 -- the answer r to the word that starts at `start` and goes by `step`: its places lie within the word, and are to be flipped
 module _
-    (n : ℕ) (s : List ℕ) (start step : ℕ) (h : Inside n s start step) (r : Answer)
-    (e : r ≡ answerOf (rules.answer n (wordAt n s start step)))
+    (n : ℕ) (s : List ℕ) (start step : ℕ) (h : Inside smallCode n s start step) (r : Answer)
+    (e : r ≡ answerOf (rules.answer smallCode n (wordAt n s start step)))
   where
-    places : rules.places (rules.answer n (wordAt n s start step)) ≡ named r
-    places = told-named (rules.answer n (wordAt n s start step)) ∙ ap named (sym e)
+    places : rules.places (rules.answer smallCode n (wordAt n s start step)) ≡ named r
+    places =
+        told-named (rules.answer smallCode n (wordAt n s start step))
+        (mend-flips smallCode sound-small n (h .0) (wordAt n s start step) (wordAt-length n s start step) .1)
+        ∙ ap named (sym e)
 
     rising : Rising 0 n (named r)
-    rising = rw places at (places-rise n (wordAt n s start step) (h .0) (h .1) (wordAt-length n s start step))
+    rising = rw places at (places-rise smallCode sound-small n (wordAt n s start step) (h .0) (wordAt-length n s start step))
 
     mended :
         (t : List ℕ) → Bytes s → t ≡ flips s start step (named r)
-        → (r ≡ answerOf (rules.answer n (wordAt n s start step))) × (t ≡ put n s start step (rules.mend n (wordAt n s start step)))
-    mended t b q = (e, q ∙ ap (flips s start step) (sym places) ∙ mend-in-place n s start step h b)
+        → (r ≡ answerOf (rules.answer smallCode n (wordAt n s start step))) × (t ≡ put n s start step (rules.mend smallCode n (wordAt n s start step)))
+    mended t b q = (e, q ∙ ap (flips s start step) (sym places) ∙ mend-in-place smallCode sound-small n s start step h b)
 
 -- what is known once the answer is there: it is the word's
 says :
     (c : tie.After-locate) → let a = c .before .before .before .before .args in
-    c .locate .result ≡ answerOf (rules.answer (a .n) (wordAt (a .n) (a .s .now) (a .start) (a .step)))
+    c .locate .result ≡ answerOf (rules.answer smallCode (a .n) (wordAt (a .n) (a .s .now) (a .start) (a .step)))
 says c =
     let a = c .before .before .before .before .args in
     c .locate .ensures
-    ∙ ap answerOf (located-answer (a .n) (wordAt (a .n) (a .s .now) (a .start) (a .step)) (c .before .checks .result) (c .before .checks .ensures .0))
+    ∙ ap answerOf (located-answer smallCode (a .n) (wordAt (a .n) (a .s .now) (a .start) (a .step)) (c .before .checks .result) (c .before .checks .ensures .0))
 
 -- the places that it names lie inside the buffer
 one-inside :
@@ -64,7 +58,7 @@ one-inside c p e =
     let a = c .before .before .before .before .args in
     let h = c .before .before .before .before .pre in
     let k = rising (a .n) (a .s .now) (a .start) (a .step) h (OnePlace p) (sym e ∙ says c) in
-    place-inside (a .n) (a .s .now) (a .start) (a .step) p h (omega (arith, k .1))
+    place-inside smallCode (a .n) (a .s .now) (a .start) (a .step) p h (omega (arith, k .1))
 
 two-inside :
     (c : tie.After-locate) (p q : ℕ) → c .locate .result ≡ TwoPlaces p q → let a = c .before .before .before .before .args in
@@ -73,16 +67,16 @@ two-inside c p q e =
     let a = c .before .before .before .before .args in
     let h = c .before .before .before .before .pre in
     let k = rising (a .n) (a .s .now) (a .start) (a .step) h (TwoPlaces p q) (sym e ∙ says c) in (
-      place-inside (a .n) (a .s .now) (a .start) (a .step) p h (omega (arith, k .1)),
-      place-inside (a .n) (a .s .now) (a .start) (a .step) q h (omega (arith, k .2 .1)),
+      place-inside smallCode (a .n) (a .s .now) (a .start) (a .step) p h (omega (arith, k .1)),
+      place-inside smallCode (a .n) (a .s .now) (a .start) (a .step) q h (omega (arith, k .2 .1)),
     )
 
 -- and a buffer with them flipped is what is owed
 done :
     (c : tie.After-locate) (r : Answer) (t : List ℕ) → c .locate .result ≡ r → let a = c .before .before .before .before .args in
     t ≡ flips (a .s .now) (a .start) (a .step) (named r)
-    → (r ≡ answerOf (rules.answer (a .n) (wordAt (a .n) (a .s .now) (a .start) (a .step))))
-    × (t ≡ put (a .n) (a .s .now) (a .start) (a .step) (rules.mend (a .n) (wordAt (a .n) (a .s .now) (a .start) (a .step))))
+    → (r ≡ answerOf (rules.answer smallCode (a .n) (wordAt (a .n) (a .s .now) (a .start) (a .step))))
+    × (t ≡ put (a .n) (a .s .now) (a .start) (a .step) (rules.mend smallCode (a .n) (wordAt (a .n) (a .s .now) (a .start) (a .step))))
 done c r t e =
     let a = c .before .before .before .before .args in
     mended (a .n) (a .s .now) (a .start) (a .step) (c .before .before .before .before .pre) r (sym e ∙ says c) t
