@@ -18,13 +18,14 @@ use Rattle.rules.specs.Frames.{Frame, corner, rowsFirst}
 use Rattle.rules.specs.Bits.{rowBytes, stride, bitAt, frameOf, bytesOf}
 use Rattle.rules.specs.Passes as passes
 use Rattle.rules.specs.Passes.{Outcome, differences, decoded}
+use Rattle.rules.specs.Damage.{spoilt}
 use Rattle.rules.specs.Numbers as rules
 use Rattle.rules.specs.Numbers.{mostAllowed, dataBytes, frameBytes, encodeOutput, readNumber, readOutput, number, figuresOf, figuresWith, decodeSaid, decodeOutput}
 use Rattle.rules.proofs.Promises.Passes.{after, PassRule}
 use Rattle.rules.proofs.Promises.Refusals.{NumberTable, GoodRow, rowOfBytes}
 use Rattle.rules.proofs.Promises.EntryRules.{Given, EncodeRule, ReadRule, decodeReasons, DecodeRule}
 use Rattle.rules.proofs.Promises.EntryRules as entry
-use Rattle.rules.proofs.Promises.Repair.{Written, Spoiled, Back, Agree}
+use Rattle.rules.proofs.Promises.Repair.{Written, Back, Agree}
 use Rattle.rules.proofs.Promises.Promised.{promised-small}
 use Rattle.frame.specs.declared.decode.Ending.{Ending}
 use Rattle.frame.specs.declared.decode.Ending.the-variants.{Clean, Repaired, Stuck, Spent}
@@ -119,6 +120,11 @@ pub record Demand₂ : Type 0 where
 
 -- ---- Demand 3: a spoiled frame comes back exactly, in at most two passes, at any allowance of two or more
 
+-- at most two rows have three or more wrong bits; spare bits are no code bits
+abbrev pub TwoSpoiled : ℕ → List ℕ → List ℕ → Type 0
+TwoSpoiled n written received =
+    (length received ≡ frameBytes n) × (spoilt 2 n (frameOf n written) (frameOf n received) ≤ 2)
+
 abbrev pub ComesBack : ℕ → List ℕ → List ℕ → Type 0
 ComesBack n written received =
     (allowance : ℕ) (output : List ℕ) (r : Decoded) (exit : List ℕ) → 2 ≤ allowance → allowance ≤ mostAllowed
@@ -129,7 +135,7 @@ pub record Demand₃ : Type 0 where
   -- any written frame, spoiled so that at most two rows have three or more wrong bits
   pub repairs :
       (n : ℕ) (message blank written : List ℕ) → Encodes n message blank 0 written
-      → (received : List ℕ) → Spoiled smallCode n written received → ComesBack n written received
+      → (received : List ℕ) → TwoSpoiled n written received → ComesBack n written received
   -- so does any frame with at most eight wrong bits
   pub eight-bits :
       (n : ℕ) (message blank written : List ℕ) → Encodes n message blank 0 written
@@ -151,7 +157,7 @@ pub record Demand₃ : Type 0 where
   pub apart :
       (n : ℕ) (message blank written message′ blank′ written′ : List ℕ) → Encodes n message blank 0 written
       → Encodes n message′ blank′ 0 written′ → written ≢ written′
-      → (received received′ : List ℕ) → Spoiled smallCode n written received → Spoiled smallCode n written′ received′ → ¬ Agree n received received′
+      → (received received′ : List ℕ) → TwoSpoiled n written received → TwoSpoiled n written′ received′ → ¬ Agree n received received′
 
 -- ---- Two calls alike return and leave the same
 
@@ -265,7 +271,7 @@ success o = go (o .ending)
 
 back-here :
     (n : ℕ) (message blank written : List ℕ) → Encodes n message blank 0 written
-    → (received : List ℕ) → Spoiled smallCode n written received → ComesBack n written received
+    → (received : List ℕ) → TwoSpoiled n written received → ComesBack n written received
 back-here n message blank written e received s allowance output r exit lo hi h c = go (ℕ-discrete (rule .refusal) 0)
   where
     back : Back smallCode n allowance written received output

@@ -14,13 +14,12 @@ use Rattle.rules.specs.Packed.{unpackedFigures}
 use Rattle.rules.proofs.Promises.Packing.{packs}
 use Rattle.rules.proofs.Promises.Refusals.{NumberTable}
 use Rattle.rules.proofs.Promises.EntryRules.{EncodeRule, ReadRule, DecodeRule}
-use Rattle.rules.proofs.Promises.Repair.{Spoiled}
 use Rattle.rules.proofs.Promises.Promised.{promised-small}
 use Rattle.frame.specs.declared.decode.Decoded as code
 use Rattle.frame.specs.Calls.{Encodes, Reads, Decodes}
 use Rattle.frame.specs.Said.{decodedOf, figures}
 use Rattle.frame.proofs.SaidLaws.{figures-said}
-use Rattle.frame.proofs.Demands.{demand₁, demand₂}
+use Rattle.frame.proofs.Demands.{TwoSpoiled, demand₁, demand₂}
 use Rattle.host.specs.Calls.{DecodesPacked}
 
 pub record HostDemands : Type 0 where
@@ -58,7 +57,7 @@ pub record HostDemands : Type 0 where
   -- demand 3
   pub comes-back :
       (n : ℕ) (message blank written : List ℕ) → Encodes n message blank 0 written
-      → (received : List ℕ) → Spoiled smallCode n written received
+      → (received : List ℕ) → TwoSpoiled n written received
       → (allowance : ℕ) (output : List ℕ) (r : ℕ) (exit : List ℕ) → 2 ≤ allowance → allowance ≤ mostAllowed
       → length output ≡ frameBytes n → DecodesPacked n allowance received output r exit
       → (unpackedFigures r .number ≡ 0) × (unpackedFigures r .passes ≤ 2) × (exit ≡ written)

@@ -15,7 +15,7 @@ pub record Code : Type 0 where
   pub degree : ℕ
   -- is the last bit a parity bit over the whole word
   pub extended : Bool
-  -- different codewords of one length differ in at least so many places: a claim, which `Mends` asks for and the radius follows
+  -- different codewords of one length differ in at least so many places. This is a claim: `Mends` says that it holds
   pub distance : ℕ
 
 -- how many wrong bits are mended: the most for which no two codewords are as near to a word

@@ -29,9 +29,11 @@ use Rattle.rules.specs.Words.{checks}
 
 -- asked of any code: the generator has the degree, there is room for data, and the limits are kept
 pub record Sound (code : Code) : Type 0 where
+  -- bit `degree` of the generator is its highest
   pub some-degree : 1 ≤ code .degree
   pub leads : 2 ^ code .degree ≤ code .generator
   pub no-higher : code .generator < 2 ^ suc (code .degree)
+  -- at least one bit is data
   pub room : checkBits code < code .shortest
   pub not-long : code .longest ≤ lengthLimit
   pub not-wide : radius code ≤ radiusLimit
