@@ -176,6 +176,15 @@ total-plus zero f g = omega (arith, total-none (λ i. f i + g i), total-none f, 
 total-plus (suc n) f g =
     omega (arith, total-last n (λ i. f i + g i), total-last n f, total-last n g, total-plus n f g)
 
+-- the first n terms, and the next m
+pub total-split : (n m : ℕ) (f : ℕ → ℕ) → total (n + m) f ≡ total n f + total m (λ i. f (n + i))
+total-split n zero f =
+    let e : n + 0 ≡ n = omega arith in
+    omega (arith, ap (λ k. total k f) e, total-none (λ i. f (n + i)))
+total-split n (suc m) f =
+    let e : n + suc m ≡ suc (n + m) = omega arith in
+    omega (arith, ap (λ k. total k f) e, total-last (n + m) f, total-last m (λ i. f (n + i)), total-split n m f)
+
 -- a sum of sums, turned over
 pub total-swap : (n m : ℕ) (c : ℕ → ℕ → ℕ) → total n (λ i. total m (λ j. c i j)) ≡ total m (λ j. total n (λ i. c i j))
 total-swap zero m c =

@@ -10,6 +10,7 @@ use lib.ListN.{length, getD}
 use Rattle.algebra.specs.Xor.{_⊕_}
 use Rattle.algebra.specs.Tables.{tab, num, ones}
 use Rattle.algebra.specs.Words.{Word, bit, _⊻_, differ, kept, dot}
+use Rattle.algebra.proofs.Digits.{num-le}
 use Rattle.algebra.proofs.XorLaws.{⊕-swap, ⊕-self, ⊕-zero, zero-⊕, ⊕-assoc}
 use Rattle.algebra.proofs.TableLaws.{num-zero, tab-suc, tab-ext, zero-count}
 
@@ -47,6 +48,13 @@ xor-num true true = omega arith
 xor-num true false = omega arith
 xor-num false true = omega arith
 xor-num false false = omega arith
+
+xor-way : (b c d : Bool) → num (xor b d) ≤ num (xor b c) + num (xor c d)
+unfolding xor
+xor-way true true d = omega arith
+xor-way true false d = omega (arith, num-le (xor true d))
+xor-way false true d = omega (arith, num-le (xor false d))
+xor-way false false d = omega arith
 
 -- ---- words of one length
 
@@ -94,6 +102,16 @@ differ-zero [] (c ∷ u) h e = absurd (omega arith)
 differ-zero (b ∷ w) [] h e = absurd (omega arith)
 differ-zero (b ∷ w) (c ∷ u) h e =
     ap₂ _∷_ (xor-false→≡ b c (num-zero (omega arith))) (differ-zero w u (omega arith) (omega arith))
+
+-- by way of a third word they differ in as many places or more
+pub differ-way : (w u v : Word) → length w ≡ length u → length u ≡ length v → differ w v ≤ differ w u + differ u v
+unfolding _⊻_ ones
+differ-way [] [] [] h k = omega arith
+differ-way [] [] (d ∷ v) h k = absurd (omega arith)
+differ-way [] (c ∷ u) v h k = absurd (omega arith)
+differ-way (b ∷ w) [] v h k = absurd (omega arith)
+differ-way (b ∷ w) (c ∷ u) [] h k = absurd (omega arith)
+differ-way (b ∷ w) (c ∷ u) (d ∷ v) h k = omega (arith, xor-way b c d, differ-way w u v (omega arith) (omega arith))
 
 pub ⊻-ones : (w u : Word) → ones (w ⊻ u) ≤ ones w + ones u
 unfolding _⊻_ ones

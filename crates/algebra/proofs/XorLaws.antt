@@ -1,11 +1,14 @@
 -- ⊕ is a group of exponent two on all numbers, and goes by digits.
 -- Assumes nothing.
 use mathlib.Core.Path.{_≡_, refl, sym, ap, _∙_}
+use mathlib.Core.Bool.{xor}
 use Prim.Native.Nat.{ℕ, _/_, _%_, _^_, _<_}
 use native.Mathlib.Omega.{arith}
+use lib.Dec.{eqb}
 use lib.Bits.{xor-comm, xor-self, xor-zero-l, xor-zero-r, xor-lt, xor-shr, xor-mod}
 use lib.Arith.{bin-ind}
 use Rattle.algebra.specs.Xor.{_⊕_}
+use Rattle.algebra.specs.Remainder.{isOdd}
 use Rattle.algebra.proofs.Digits.{digit-case, digits-case}
 
 pub ⊕-comm : (a b : ℕ) → a ⊕ b ≡ b ⊕ a
@@ -41,6 +44,13 @@ pub ⊕-half : (a b : ℕ) → (a ⊕ b) / 2 ≡ a / 2 ⊕ b / 2
 
 pub ⊕-digit : (a b : ℕ) → (a ⊕ b) % 2 ≡ a % 2 ⊕ b % 2
 ⊕-digit a b = ⊕-mod 1 a b
+
+-- a sum is odd where one of the two is
+pub odd-⊕ : (x y : ℕ) → isOdd (x ⊕ y) ≡ xor (isOdd x) (isOdd y)
+unfolding _⊕_ xor
+odd-⊕ x y =
+    ap (λ m. eqb m 1) (⊕-digit x y)
+    ∙ digits-case (λ p q. eqb (p ⊕ q) 1 ≡ xor (eqb p 1) (eqb q 1)) refl refl refl refl (x % 2) (y % 2) (omega arith) (omega arith)
 
 -- two numbers with equal halves and equal last digits are equal
 pub by-digit : {a b : ℕ} → a / 2 ≡ b / 2 → a % 2 ≡ b % 2 → a ≡ b

@@ -24,7 +24,7 @@ fn show_report(report: Report) {
         Ending::Spent => text(b" spent"),
     }
     number(report.passes);
-    number(report.flips);
+    number(report.bits);
     number(report.rows);
     number(report.columns);
 }

@@ -40,10 +40,10 @@ told-as number d e q t h s at x exit = subst (λ (u : Text). Lays s at u x exit)
 -- a record's line, as the rules have it
 pub decoded-said : (number : ℕ) (d : rules.Decoded) → decodedText number (decodedOf d) ≡ recordText number d
 decoded-said number (refused k) = refl
-decoded-said number (ended passes.clean p f r c) = refl
-decoded-said number (ended passes.repaired p f r c) = refl
-decoded-said number (ended passes.stuck p f r c) = refl
-decoded-said number (ended passes.spent p f r c) = refl
+decoded-said number (ended passes.clean p b r c) = refl
+decoded-said number (ended passes.repaired p b r c) = refl
+decoded-said number (ended passes.stuck p b r c) = refl
+decoded-said number (ended passes.spent p b r c) = refl
 
 -- the output matters to what is said by its length alone
 pub said-of-length :

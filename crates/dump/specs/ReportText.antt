@@ -28,24 +28,24 @@ lineRoom = 128
 
 -- the numbers that close a record's line
 abbrev pub countsText : Counts → Text
-countsText c = reportLine (decimal (c .passes)) (decimal (c .flips) ∷ decimal (c .rows) ∷ decimal (c .columns) ∷ [])
+countsText c = reportLine (decimal (c .passes)) (decimal (c .bits) ∷ decimal (c .rows) ∷ decimal (c .columns) ∷ [])
 
 -- a record's line, from its word and its counts
 abbrev pub wordAndCounts : ℕ → Text → Counts → Text
 wordAndCounts number word c =
-    reportLine (decimal number) (word ∷ decimal (c .passes) ∷ decimal (c .flips) ∷ decimal (c .rows) ∷ decimal (c .columns) ∷ [])
+    reportLine (decimal number) (word ∷ decimal (c .passes) ∷ decimal (c .bits) ∷ decimal (c .rows) ∷ decimal (c .columns) ∷ [])
 
 -- clean and repaired have no rows and columns
 abbrev pub mendedCounts : Report → Counts
-mendedCounts r = record { passes = r .passes; flips = r .flips; rows = 0; columns = 0 }
+mendedCounts r = record { passes = r .passes; bits = r .bits; rows = 0; columns = 0 }
 
 -- stuck and spent have all four
 abbrev pub badCounts : Report → Counts
-badCounts r = record { passes = r .passes; flips = r .flips; rows = r .rows; columns = r .columns }
+badCounts r = record { passes = r .passes; bits = r .bits; rows = r .rows; columns = r .columns }
 
 -- a refusal has its number, and three zeros
 abbrev pub refusedCounts : ℕ → Counts
-refusedCounts k = record { passes = k; flips = 0; rows = 0; columns = 0 }
+refusedCounts k = record { passes = k; bits = 0; rows = 0; columns = 0 }
 
 -- the line of a report, by its ending
 abbrev pub textFor : ℕ → Ending → Report → Text

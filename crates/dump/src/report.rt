@@ -25,7 +25,7 @@ pub(crate) fn put_questioned(out: &mut [u8], at: usize, number: usize) -> usize
 // The numbers that close a record's line; a refusal has its own in the place of the passes.
 struct Counts {
     passes: usize,
-    flips: usize,
+    bits: usize,
     rows: usize,
     columns: usize,
 }
@@ -35,7 +35,7 @@ fn put_counts(out: &mut [u8], at: usize, counts: Counts) -> usize
     ensures { λ r. ⌜ Lays (now (out .entry)) at (countsText counts) r (now (out .exit)) ⌝ }
 {
     let a = put_decimal(out, at, counts.passes);
-    let b = put_count(out, a, counts.flips);
+    let b = put_count(out, a, counts.bits);
     let c = put_count(out, b, counts.rows);
     let d = put_count(out, c, counts.columns);
     put(out, d, b"\n")
@@ -58,7 +58,7 @@ fn mended_counts(report: Report) -> Counts
 {
     Counts {
         passes: report.passes,
-        flips: report.flips,
+        bits: report.bits,
         rows: 0,
         columns: 0,
     }
@@ -69,7 +69,7 @@ fn bad_counts(report: Report) -> Counts
 {
     Counts {
         passes: report.passes,
-        flips: report.flips,
+        bits: report.bits,
         rows: report.rows,
         columns: report.columns,
     }
@@ -80,7 +80,7 @@ fn refused_counts(number: u32) -> Counts
 {
     Counts {
         passes: number as usize,
-        flips: 0,
+        bits: 0,
         rows: 0,
         columns: 0,
     }

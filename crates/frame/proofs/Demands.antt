@@ -20,7 +20,7 @@ use Rattle.rules.specs.Passes as passes
 use Rattle.rules.specs.Passes.{Outcome, differences, decoded}
 use Rattle.rules.specs.Damage.{spoilt}
 use Rattle.rules.specs.Numbers as rules
-use Rattle.rules.specs.Numbers.{mostAllowed, dataBytes, frameBytes, encodeOutput, readNumber, readOutput, number, figuresOf, figuresWith, decodeSaid, decodeOutput}
+use Rattle.rules.specs.Numbers.{mostAllowed, dataBytes, frameBytes, encodeOutput, readNumber, readOutput, number, Figures, figuresOf, figuresWith, decodeSaid, decodeOutput}
 use Rattle.rules.proofs.Promises.Passes.{after, PassRule}
 use Rattle.rules.proofs.Promises.Refusals.{NumberTable, GoodRow, rowOfBytes}
 use Rattle.rules.proofs.Promises.EntryRules.{Given, EncodeRule, ReadRule, decodeReasons, DecodeRule}
@@ -66,7 +66,7 @@ outcomeAs n f e r =
     record {
       ending = e;
       passes = r .passes;
-      flips = r .flips;
+      bits = r .bits;
       rows = r .rows;
       columns = r .columns;
       last = after smallCode n f (r .passes);
@@ -89,7 +89,7 @@ DecodeSays n a received output (Ended r) exit =
 
 -- a report's fields by their names
 abbrev pub ended : Ending → ℕ → ℕ → ℕ → ℕ → Decoded
-ended e p f r c = Ended (record { ending = e; passes = p; flips = f; rows = r; columns = c })
+ended e p b r c = Ended (record { ending = e; passes = p; bits = b; rows = r; columns = c })
 
 pub record Demand₂ : Type 0 where
   -- the rule of each entry point names each number beside its reason
@@ -103,10 +103,10 @@ pub record Demand₂ : Type 0 where
       → DecodeSays n allowance received output r exit
   -- each answer's number and values
   pub refused-is : (k : ℕ) → figures (Refused k) ≡ figuresWith k 0 0 0 0
-  pub clean-is : (p f r c : ℕ) → figures (ended Clean p f r c) ≡ figuresWith 0 p f 0 0
-  pub repaired-is : (p f r c : ℕ) → figures (ended Repaired p f r c) ≡ figuresWith 0 p f 0 0
-  pub stuck-is : (p f r c : ℕ) → figures (ended Stuck p f r c) ≡ figuresWith 7 p f r c
-  pub spent-is : (p f r c : ℕ) → figures (ended Spent p f r c) ≡ figuresWith 8 p f r c
+  pub clean-is : (p b r c : ℕ) → figures (ended Clean p b r c) ≡ figuresWith 0 p b 0 0
+  pub repaired-is : (p b r c : ℕ) → figures (ended Repaired p b r c) ≡ figuresWith 0 p b 0 0
+  pub stuck-is : (p b r c : ℕ) → figures (ended Stuck p b r c) ≡ figuresWith 7 p b r c
+  pub spent-is : (p b r c : ℕ) → figures (ended Spent p b r c) ≡ figuresWith 8 p b r c
   -- what was encoded is read back; the message's entries are bytes
   pub back :
       (n : ℕ) (message output frame : List ℕ) → Encodes n message output 0 frame → ((p : ℕ) → getD message p 0 < 256)
@@ -125,11 +125,17 @@ abbrev pub TwoSpoiled : ℕ → List ℕ → List ℕ → Type 0
 TwoSpoiled n written received =
     (length received ≡ frameBytes n) × (spoilt 2 n (frameOf n written) (frameOf n received) ≤ 2)
 
+-- how many code bits are wrong
+abbrev pub wrongBits : ℕ → List ℕ → List ℕ → ℕ
+wrongBits n written received = differences n (frameOf n written) (frameOf n received)
+
+-- and the report's bits are the wrong ones, all of them and no other
 abbrev pub ComesBack : ℕ → List ℕ → List ℕ → Type 0
 ComesBack n written received =
     (allowance : ℕ) (output : List ℕ) (r : Decoded) (exit : List ℕ) → 2 ≤ allowance → allowance ≤ mostAllowed
     → length output ≡ frameBytes n → Decodes n allowance received output r exit
-    → (q : Report) × (r ≡ Ended q) × ((q .ending ≡ Clean) ⊎ (q .ending ≡ Repaired)) × (q .passes ≤ 2) × (exit ≡ written)
+    → (q : Report) × (r ≡ Ended q) × ((q .ending ≡ Clean) ⊎ (q .ending ≡ Repaired)) × (q .passes ≤ 2) × (q .bits ≡ wrongBits n written received)
+    × (exit ≡ written)
 
 pub record Demand₃ : Type 0 where
   -- any written frame, spoiled so that at most two rows have three or more wrong bits
@@ -139,7 +145,7 @@ pub record Demand₃ : Type 0 where
   -- so does any frame with at most eight wrong bits
   pub eight-bits :
       (n : ℕ) (message blank written : List ℕ) → Encodes n message blank 0 written
-      → (received : List ℕ) → length received ≡ frameBytes n → differences n (frameOf n written) (frameOf n received) ≤ 8
+      → (received : List ℕ) → length received ≡ frameBytes n → wrongBits n written received ≤ 8
       → ComesBack n written received
   -- and any with two rows p and q lost whole
   pub rows-lost :
@@ -197,7 +203,7 @@ ending-says :
     → EndingSays n a (frameOf n received) received (endingOf (o .ending)) (reportOf o) exit
 ending-says n a received exit o k x =
     go (o .ending)
-    (record { ends = k .ends; last-is = refl; flips-are = k .flips-are; rows-are = k .rows-are; columns-are = k .columns-are })
+    (record { ends = k .ends; last-is = refl; bits-are = k .bits-are; rows-are = k .rows-are; columns-are = k .columns-are })
     (x ∙ ap (entry.written n received (o .ending)) (k .last-is))
   where
     go :
@@ -232,10 +238,10 @@ demand₂ = record {
   read = λ n frame output r exit e. rw (e .0, e .1) (promised-small .entries .reads n frame output);
   decode = decode-says;
   refused-is = λ k. refl;
-  clean-is = λ p f r c. refl;
-  repaired-is = λ p f r c. refl;
-  stuck-is = λ p f r c. refl;
-  spent-is = λ p f r c. refl;
+  clean-is = λ p b r c. refl;
+  repaired-is = λ p b r c. refl;
+  stuck-is = λ p b r c. refl;
+  spent-is = λ p b r c. refl;
   back = λ n message output frame e bytes lent r exit h c.
       let t = promised-small .round-trips .trip n message output (sym (e .0)) in
       let p : (readNumber smallCode n frame lent ≡ 0) × (readOutput smallCode n frame lent ≡ message) =
@@ -254,20 +260,23 @@ demand₂ = record {
 writes : (n : ℕ) (message output written : List ℕ) → Encodes n message output 0 written → Written smallCode n written
 writes n message output written e = record { input = message; blank = output; accepts = sym (e .0); writes = sym (e .1) }
 
--- number 0, of an outcome: clean or repaired
+-- number 0, of an outcome: clean or repaired; passes and bits are its own
 success :
-    (o : Outcome) → number (rules.told o) ≡ 0 → figuresOf (rules.told o) .passes ≤ 2
-    → ((reportOf o .ending ≡ Clean) ⊎ (reportOf o .ending ≡ Repaired)) × (o .passes ≤ 2)
+    (o : Outcome) → number (rules.told o) ≡ 0
+    → ((reportOf o .ending ≡ Clean) ⊎ (reportOf o .ending ≡ Repaired)) × (figuresOf (rules.told o) .passes ≡ o .passes)
+    × (figuresOf (rules.told o) .bits ≡ o .bits)
 success o = go (o .ending)
   where
+    told : passes.Ending → Figures
+    told e = figuresOf (rules.ended e (o .passes) (o .bits) (o .rows) (o .columns))
+
     go :
-        (e : passes.Ending) → number (rules.ended e (o .passes) (o .flips) (o .rows) (o .columns)) ≡ 0
-        → figuresOf (rules.ended e (o .passes) (o .flips) (o .rows) (o .columns)) .passes ≤ 2
-        → ((endingOf e ≡ Clean) ⊎ (endingOf e ≡ Repaired)) × (o .passes ≤ 2)
-    go passes.clean z h = (inl refl, h)
-    go passes.repaired z h = (inr refl, h)
-    go passes.stuck z h = absurd (omega (arith, z))
-    go passes.spent z h = absurd (omega (arith, z))
+        (e : passes.Ending) → told e .number ≡ 0
+        → ((endingOf e ≡ Clean) ⊎ (endingOf e ≡ Repaired)) × (told e .passes ≡ o .passes) × (told e .bits ≡ o .bits)
+    go passes.clean z = (inl refl, refl, refl)
+    go passes.repaired z = (inr refl, refl, refl)
+    go passes.stuck z = absurd (omega (arith, z))
+    go passes.spent z = absurd (omega (arith, z))
 
 back-here :
     (n : ℕ) (message blank written : List ℕ) → Encodes n message blank 0 written
@@ -282,11 +291,19 @@ back-here n message blank written e received s allowance output r exit lo hi h c
 
     go :
         Dec (rule .refusal ≡ 0)
-        → (q : Report) × (r ≡ Ended q) × ((q .ending ≡ Clean) ⊎ (q .ending ≡ Repaired)) × (q .passes ≤ 2) × (exit ≡ written)
+        → (q : Report) × (r ≡ Ended q) × ((q .ending ≡ Clean) ⊎ (q .ending ≡ Repaired)) × (q .passes ≤ 2) × (q .bits ≡ wrongBits n written received)
+        × (exit ≡ written)
     go (yes z) =
         let o = rule .ends z in
-        let k = success (o .0) (sym (ap number (o .2)) ∙ back .zero) (rw (o .2) at (back .few)) in
-        (reportOf (o .0), c .0 ∙ ap decodedOf (o .2), k .0, k .1, c .1 ∙ back .bytes)
+        let k = success (o .0) (sym (ap number (o .2)) ∙ back .zero) in
+        let few : figuresOf (rules.told (o .0)) .passes ≤ 2 = rw (o .2) at (back .few) in (
+          reportOf (o .0),
+          c .0 ∙ ap decodedOf (o .2),
+          k .0,
+          omega (arith, few, k .1),
+          sym (k .2) ∙ sym (ap (λ d. figuresOf d .bits) (o .2)) ∙ back .bits,
+          c .1 ∙ back .bytes,
+        )
     go (no z) = absurd (z (sym (ap number (rule .refuses z .0)) ∙ back .zero))
 
 -- neither of two places

@@ -11,21 +11,24 @@ use Rattle.rules.specs.Bits.{frameOf, bytesOf}
 use Rattle.rules.specs.Passes as passes
 use Rattle.rules.specs.Passes.{decoded}
 use Rattle.rules.specs.Numbers.{pick, handedOut, decodeSaid, decodeOutput}
-use Rattle.laws.specs.Turns.{cornered}
 use Rattle.laws.proofs.DecodeLaws as refusals
-use Rattle.laws.proofs.DecodeLaws.{Accepted, accepted, copied-frame}
+use Rattle.laws.proofs.DecodeLaws.{Accepted, accepted}
 use Rattle.laws.proofs.PassStepLaws as steps
+use Rattle.frame.specs.declared.decode.Ending.{Ending}
 use Rattle.frame.specs.declared.decode.Report.{Report}
 use Rattle.frame.specs.declared.decode.Decoded.the-variants.{Ended}
-use Rattle.frame.specs.Said.{endingOf, reportWith, reportOf, decodedOf, isFailure}
+use Rattle.frame.specs.Said.{endingOf, reportOf, decodedOf, isFailure}
 
--- a report of the outcome, and the buffer its frame
+-- a report of the outcome, its ending as the code has it, and the buffer its frame
 pub reported :
-    {n a : ℕ} {f : Frame} {s : List ℕ} {e : passes.Ending} {p x r c : ℕ} → steps.Ended smallCode n a f s e p x r c
-    → (reportWith e p x r c ≡ reportOf (decoded smallCode n a f))
+    {n a : ℕ} {f : Frame} {s : List ℕ} {e : passes.Ending} {p b r c : ℕ} {ending : Ending}
+    → ending ≡ endingOf e → steps.Ended smallCode n a f s e p b r c
+    → (_≡_ {A = Report} (record { ending = ending; passes = p; bits = b; rows = r; columns = c }) (reportOf (decoded smallCode n a f)))
     × (s ≡ bytesOf n (decoded smallCode n a f .last))
-reported {n = n} h =
-    (ap reportOf (sym (h .outcome)), h .packed ∙ ap (λ o. bytesOf n (o .last)) (sym (h .outcome)))
+reported {n = n} {p = p} {b = b} {r = r} {c = c} q h = (
+  ap (λ (d : Ending). record { ending = d; passes = p; bits = b; rows = r; columns = c }) q ∙ ap reportOf (sym (h .outcome)),
+  h .packed ∙ ap (λ o. bytesOf n (o .last)) (sym (h .outcome)),
+)
 
 -- a refusal leaves the output as it was
 pub refusal-said :
@@ -53,36 +56,29 @@ handed-is n input o = go (o .ending)
     go passes.stuck = refl
     go passes.spent = refl
 
--- all checks passed: the frame was copied to s, and repaired there
+-- all checks passed: the frame was copied, and repaired there
 module _
-    (n a : ℕ) (input output s : List ℕ) (ok : Accepted smallCode n a input output) (copied : s ≡ bytesOf n (cornered n n (frameOf n input)))
-    (r : Report) (er : r ≡ reportOf (decoded smallCode n a (frameOf n s)))
+    (n a : ℕ) (input output : List ℕ) (ok : Accepted smallCode n a input output)
+    (r : Report) (er : r ≡ reportOf (decoded smallCode n a (frameOf n input)))
     (b : Bool) (eb : b ≡ isFailure (r .ending)) (t : List ℕ)
   where
-    same : frameOf n s ≡ frameOf n input
-    same = copied-frame n input s copied
-
-    told-is : r ≡ reportOf (decoded smallCode n a (frameOf n input))
-    told-is = er ∙ ap (λ f. reportOf (decoded smallCode n a f)) same
-
     abbrev out : passes.Outcome
     out = decoded smallCode n a (frameOf n input)
 
     said-is : Ended r ≡ decodedOf (decodeSaid smallCode n a input output)
-    said-is = ap Ended told-is ∙ ap decodedOf (sym (accepted smallCode n a input output ok .0))
+    said-is = ap Ended er ∙ ap decodedOf (sym (accepted smallCode n a input output ok .0))
 
     -- what is handed out, by the test that the code makes
     output-is : decodeOutput smallCode n a input output ≡ pick b input (bytesOf n (out .last))
     output-is =
         accepted smallCode n a input output ok .1
         ∙ handed-is n input out
-        ∙ ap (λ x. pick x input (bytesOf n (out .last))) (sym (eb ∙ ap (λ (x : Report). isFailure (x .ending)) told-is))
+        ∙ ap (λ x. pick x input (bytesOf n (out .last))) (sym (eb ∙ ap (λ (x : Report). isFailure (x .ending)) er))
 
     pub failed : b ≡ true → t ≡ input → (Ended r ≡ decodedOf (decodeSaid smallCode n a input output)) × (t ≡ decodeOutput smallCode n a input output)
     failed h e = (said-is, e ∙ sym (output-is ∙ rw h))
 
     pub succeeded :
-        b ≡ false → t ≡ bytesOf n (decoded smallCode n a (frameOf n s) .last)
+        b ≡ false → t ≡ bytesOf n (out .last)
         → (Ended r ≡ decodedOf (decodeSaid smallCode n a input output)) × (t ≡ decodeOutput smallCode n a input output)
-    succeeded h e =
-        (said-is, e ∙ ap (λ f. bytesOf n (decoded smallCode n a f .last)) same ∙ sym (output-is ∙ rw h))
+    succeeded h e = (said-is, e ∙ sym (output-is ∙ rw h))

@@ -7,7 +7,7 @@ use Rattle.frame.specs.Said.{decodedOf, figures}
 
 pub figures-said : (d : Decoded) → figures (decodedOf d) ≡ figuresOf d
 figures-said (refused r) = refl
-figures-said (ended clean p f r c) = refl
-figures-said (ended repaired p f r c) = refl
-figures-said (ended stuck p f r c) = refl
-figures-said (ended spent p f r c) = refl
+figures-said (ended clean p b r c) = refl
+figures-said (ended repaired p b r c) = refl
+figures-said (ended stuck p b r c) = refl
+figures-said (ended spent p b r c) = refl

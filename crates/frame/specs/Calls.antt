@@ -32,10 +32,11 @@ MendsWord n columns k s r exit =
     let w : Word = wordIn n columns s k in
     ((r ≡ differ w (mend smallCode n w)) × (r ≤ radiusLimit)) × (exit ≡ put n s (startOf n columns k) (stepOf n columns) (mend smallCode n w))
 
--- the passes alone, in a buffer whose spare bits are zero: they leave the last frame there
+-- the passes alone, in a copy of the received frame: they leave the last frame there
 abbrev pub Repairs : ℕ → ℕ → List ℕ → Report → List ℕ → Type 0
-Repairs n allowance s r exit =
-    (r ≡ reportOf (decoded smallCode n allowance (frameOf n s))) × (exit ≡ bytesOf n (decoded smallCode n allowance (frameOf n s) .last))
+Repairs n allowance received r exit =
+    (r ≡ reportOf (decoded smallCode n allowance (frameOf n received)))
+    × (exit ≡ bytesOf n (decoded smallCode n allowance (frameOf n received) .last))
 
 -- a row has no lent output: what is returned is a part of the frame
 abbrev pub TakesRow : ℕ → List ℕ → ℕ → List ℕ → Type 0

@@ -19,20 +19,20 @@ endingOf passes.spent = Spent
 
 -- each value in the field of its name
 abbrev pub reportWith : passes.Ending → ℕ → ℕ → ℕ → ℕ → Report
-reportWith e p f r c = record { ending = endingOf e; passes = p; flips = f; rows = r; columns = c }
+reportWith e p b r c = record { ending = endingOf e; passes = p; bits = b; rows = r; columns = c }
 
 -- an outcome, but for its frame
 abbrev pub reportOf : passes.Outcome → Report
-reportOf o = reportWith (o .ending) (o .passes) (o .flips) (o .rows) (o .columns)
+reportOf o = reportWith (o .ending) (o .passes) (o .bits) (o .rows) (o .columns)
 
 -- a refusal with its number, or what the passes gave
 abbrev pub decodedOf : rules.Decoded → Decoded
 decodedOf (rules.refused k) = Refused k
-decodedOf (rules.ended e p f r c) = Ended (reportWith e p f r c)
+decodedOf (rules.ended e p b r c) = Ended (reportWith e p b r c)
 
 -- a frame that needed no pass
 abbrev pub cleanReport : Report
-cleanReport = record { ending = Clean; passes = 0; flips = 0; rows = 0; columns = 0 }
+cleanReport = record { ending = Clean; passes = 0; bits = 0; rows = 0; columns = 0 }
 
 -- stuck and spent
 abbrev pub isFailure : Ending → Bool
@@ -43,16 +43,16 @@ isFailure Spent = true
 
 -- the number, and the values that stand beside it: rows and columns for stuck and spent alone
 abbrev pub figuresFor : Ending → ℕ → ℕ → ℕ → ℕ → Figures
-figuresFor Clean p f r c = record { number = 0; passes = p; flips = f; rows = 0; columns = 0 }
-figuresFor Repaired p f r c = record { number = 0; passes = p; flips = f; rows = 0; columns = 0 }
-figuresFor Stuck p f r c = record { number = 7; passes = p; flips = f; rows = r; columns = c }
-figuresFor Spent p f r c = record { number = 8; passes = p; flips = f; rows = r; columns = c }
+figuresFor Clean p b r c = record { number = 0; passes = p; bits = b; rows = 0; columns = 0 }
+figuresFor Repaired p b r c = record { number = 0; passes = p; bits = b; rows = 0; columns = 0 }
+figuresFor Stuck p b r c = record { number = 7; passes = p; bits = b; rows = r; columns = c }
+figuresFor Spent p b r c = record { number = 8; passes = p; bits = b; rows = r; columns = c }
 
 -- those of a report
 abbrev pub reportFigures : Report → Figures
-reportFigures r = figuresFor (r .ending) (r .passes) (r .flips) (r .rows) (r .columns)
+reportFigures r = figuresFor (r .ending) (r .passes) (r .bits) (r .rows) (r .columns)
 
 -- those of an answer; a refusal has its number alone
 abbrev pub figures : Decoded → Figures
-figures (Refused k) = record { number = k; passes = 0; flips = 0; rows = 0; columns = 0 }
+figures (Refused k) = record { number = k; passes = 0; bits = 0; rows = 0; columns = 0 }
 figures (Ended r) = reportFigures r

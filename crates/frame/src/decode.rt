@@ -1,5 +1,6 @@
 // Decoding: passes over rows and columns in turn, in the lent output.
 use crate::corner::copy_corner;
+use crate::differences::differences;
 use crate::sizes::square_bytes;
 use crate::words::bad;
 use crate::words::mend_word;
@@ -13,7 +14,7 @@ ghost use Prim.Native.Nat.{_≤_};
 ghost use Rattle.rules.specs.Codes.{smallCode};
 ghost use Rattle.rules.specs.Passes.{isStuck};
 ghost use Rattle.rules.specs.Numbers.{mostAllowed, notAllowed};
-ghost use Rattle.laws.specs.Turns.{Ready};
+ghost use Rattle.laws.specs.Turns.{Copied};
 ghost use Rattle.frame.specs.Calls.{Repairs, Decodes};
 ghost use Rattle.frame.specs.Said.{cleanReport, isFailure};
 
@@ -26,11 +27,12 @@ pub enum Ending {
     Spent,
 }
 
-// Flips are added up over the passes. Rows and columns are those left at the end that are no codewords: only stuck and spent have any.
+// Bits are those in which the last frame differs from the received one. Rows and columns are those left at the end that are no codewords:
+// only stuck and spent have any.
 pub struct Report {
     pub ending: Ending,
     pub passes: usize,
-    pub flips: usize,
+    pub bits: usize,
     pub rows: usize,
     pub columns: usize,
 }
@@ -48,7 +50,7 @@ fn clean() -> Report
     Report {
         ending: Ending::Clean,
         passes: 0,
-        flips: 0,
+        bits: 0,
         rows: 0,
         columns: 0,
     }
@@ -85,10 +87,10 @@ fn is_stuck(pass: usize, changes: usize) -> bool
     changes == 0
 }
 
-// The passes, made in the frame itself: it is left as the last pass left it.
-fn repair(n: usize, allowance: usize, s: &mut [u8]) -> Report
-    requires { ⌜ Ready smallCode n (now s) × (1 ≤ allowance) × (allowance ≤ mostAllowed) ⌝ }
-    ensures { λ r. ⌜ Repairs n allowance (now (s .entry)) r (now (s .exit)) ⌝ }
+// The passes, made in a copy of the received frame: it is left as the last pass left it.
+fn repair(n: usize, allowance: usize, received: &[u8], s: &mut [u8]) -> Report
+    requires { ⌜ Copied smallCode n (now received) (now s) × (1 ≤ allowance) × (allowance ≤ mostAllowed) ⌝ }
+    ensures { λ r. ⌜ Repairs n allowance (now (received .entry)) r (now (s .exit)) ⌝ }
 {
     let mut rows = bad(n, s, false);
     let mut columns = bad(n, s, true);
@@ -96,7 +98,6 @@ fn repair(n: usize, allowance: usize, s: &mut [u8]) -> Report
         return clean();
     }
     let mut passes = 0;
-    let mut flips = 0;
     let ending = loop {
         let by_columns = passes % 2 == 1;
         let mut changes = 0;
@@ -104,7 +105,6 @@ fn repair(n: usize, allowance: usize, s: &mut [u8]) -> Report
             changes = changes + mend_word(n, s, by_columns, k);
         }
         passes = passes + 1;
-        flips = flips + changes;
         rows = bad(n, s, false);
         columns = bad(n, s, true);
         if rows + columns == 0 {
@@ -120,7 +120,7 @@ fn repair(n: usize, allowance: usize, s: &mut [u8]) -> Report
     Report {
         ending,
         passes,
-        flips,
+        bits: differences(n, received, s),
         rows,
         columns,
     }
@@ -143,7 +143,7 @@ pub fn decode(n: usize, allowance: usize, received: &[u8], frame: &mut [u8]) -> 
         return Decoded::Refused(BAD_ALLOWANCE);
     }
     copy_corner(n, n, received, n, frame);
-    let report = repair(n, allowance, frame);
+    let report = repair(n, allowance, received, frame);
     let ending = report.ending;
     if is_failure(ending) {
         bytes::copy(received, frame);

@@ -1,6 +1,7 @@
 // Square code frames.
 mod corner;
 pub mod decode;
+mod differences;
 pub mod encode;
 pub mod read;
 pub mod row;

@@ -19,7 +19,7 @@ use Rattle.frame.specs.declared.decode.Decoded as code
 use Rattle.frame.specs.Calls.{Encodes, Reads, Decodes}
 use Rattle.frame.specs.Said.{decodedOf, figures}
 use Rattle.frame.proofs.SaidLaws.{figures-said}
-use Rattle.frame.proofs.Demands.{TwoSpoiled, demand₁, demand₂}
+use Rattle.frame.proofs.Demands.{TwoSpoiled, wrongBits, demand₁, demand₂}
 use Rattle.host.specs.Calls.{DecodesPacked}
 
 pub record HostDemands : Type 0 where
@@ -54,13 +54,14 @@ pub record HostDemands : Type 0 where
   pub library :
       (n allowance : ℕ) (received output : List ℕ) (r : ℕ) (exit : List ℕ) → DecodesPacked n allowance received output r exit
       → (q : code.Decoded) × Decodes n allowance received output q exit × (unpackedFigures r ≡ figures q)
-  -- demand 3
+  -- demand 3; the bits read out are the wrong ones, all of them and no other
   pub comes-back :
       (n : ℕ) (message blank written : List ℕ) → Encodes n message blank 0 written
       → (received : List ℕ) → TwoSpoiled n written received
       → (allowance : ℕ) (output : List ℕ) (r : ℕ) (exit : List ℕ) → 2 ≤ allowance → allowance ≤ mostAllowed
       → length output ≡ frameBytes n → DecodesPacked n allowance received output r exit
-      → (unpackedFigures r .number ≡ 0) × (unpackedFigures r .passes ≤ 2) × (exit ≡ written)
+      → (unpackedFigures r .number ≡ 0) × (unpackedFigures r .passes ≤ 2) × (unpackedFigures r .bits ≡ wrongBits n written received)
+      × (exit ≡ written)
   -- two calls alike return and leave the same; of encode and read the library's theorem says so
   pub determined :
       (n allowance : ℕ) (received output : List ℕ) (r r′ : ℕ) (exit exit′ : List ℕ) → DecodesPacked n allowance received output r exit
@@ -99,6 +100,6 @@ host-demands = record {
       promised-small .repairs .back n allowance written received output
       (record { input = message; blank = blank; accepts = sym (w .0); writes = sym (w .1) }) s lo hi h in
       let is = read-out n allowance received output r exit e in
-      (ap (λ f. f .number) is ∙ k .zero, rw is (k .few), e .1 ∙ k .bytes);
+      (ap (λ f. f .number) is ∙ k .zero, rw is (k .few), ap (λ f. f .bits) is ∙ k .bits, e .1 ∙ k .bytes);
   determined = λ n allowance received output r r′ exit exit′ e e′. (e .0 ∙ sym (e′ .0), e .1 ∙ sym (e′ .1));
 }

@@ -19,29 +19,29 @@ above : (j k b a : ℕ) → j + k ≤ 64 → b < 2 ^ k → a < 2 ^ j → bitOr b
 above j k b a room hb ha = ap (bitOr b) (shl-exact j k 64 ha room) ∙ or-shifted-r a k b hb ∙ add-comm (a * 2 ^ k) b
 
 pub or-packed :
-    (k p f r c : ℕ) → HasRoom (figuresWith k p f r c)
-    → bitOr (bitOr (bitOr (bitOr k (p * 2 ^ 8 % 2 ^ 64)) (f * 2 ^ 16 % 2 ^ 64)) (r * 2 ^ 32 % 2 ^ 64)) (c * 2 ^ 48 % 2 ^ 64)
-    ≡ packedFigures (figuresWith k p f r c)
+    (k p b r c : ℕ) → HasRoom (figuresWith k p b r c)
+    → bitOr (bitOr (bitOr (bitOr k (p * 2 ^ 8 % 2 ^ 64)) (b * 2 ^ 16 % 2 ^ 64)) (r * 2 ^ 32 % 2 ^ 64)) (c * 2 ^ 48 % 2 ^ 64)
+    ≡ packedFigures (figuresWith k p b r c)
 unfolding packedFigures
-or-packed k p f r c h =
-    ap (λ x. bitOr (bitOr (bitOr x (f * 2 ^ 16 % 2 ^ 64)) (r * 2 ^ 32 % 2 ^ 64)) (c * 2 ^ 48 % 2 ^ 64))
+or-packed k p b r c h =
+    ap (λ x. bitOr (bitOr (bitOr x (b * 2 ^ 16 % 2 ^ 64)) (r * 2 ^ 32 % 2 ^ 64)) (c * 2 ^ 48 % 2 ^ 64))
     (above 8 8 k p (omega arith) (h .number) (h .passes))
     ∙ ap (λ x. bitOr (bitOr x (r * 2 ^ 32 % 2 ^ 64)) (c * 2 ^ 48 % 2 ^ 64))
-    (above 16 16 (k + p * 2 ^ 8) f (omega arith) (omega (arith, h .number, h .passes)) (h .flips))
+    (above 16 16 (k + p * 2 ^ 8) b (omega arith) (omega (arith, h .number, h .passes)) (h .bits))
     ∙ ap (λ x. bitOr x (c * 2 ^ 48 % 2 ^ 64))
-    (above 16 32 (k + p * 2 ^ 8 + f * 2 ^ 16) r (omega arith) (omega (arith, h .number, h .passes, h .flips)) (h .rows))
-    ∙ above 16 48 (k + p * 2 ^ 8 + f * 2 ^ 16 + r * 2 ^ 32) c (omega arith) (omega (arith, h .number, h .passes, h .flips, h .rows)) (h .columns)
+    (above 16 32 (k + p * 2 ^ 8 + b * 2 ^ 16) r (omega arith) (omega (arith, h .number, h .passes, h .bits)) (h .rows))
+    ∙ above 16 48 (k + p * 2 ^ 8 + b * 2 ^ 16 + r * 2 ^ 32) c (omega arith) (omega (arith, h .number, h .passes, h .bits, h .rows)) (h .columns)
 
 -- a report's values, by its ending
 module _ (r : Report) (e : Ending) (is : r .ending ≡ e) where
-  here : reportFigures r ≡ figuresFor e (r .passes) (r .flips) (r .rows) (r .columns)
-  here = ap (λ x. figuresFor x (r .passes) (r .flips) (r .rows) (r .columns)) is
+  here : reportFigures r ≡ figuresFor e (r .passes) (r .bits) (r .rows) (r .columns)
+  here = ap (λ x. figuresFor x (r .passes) (r .bits) (r .rows) (r .columns)) is
 
-  pub fits-here : HasRoom (reportFigures r) → HasRoom (figuresFor e (r .passes) (r .flips) (r .rows) (r .columns))
+  pub fits-here : HasRoom (reportFigures r) → HasRoom (figuresFor e (r .passes) (r .bits) (r .rows) (r .columns))
   fits-here h = rw here at h
 
   pub packed-here :
-      (x : ℕ) → x ≡ packedFigures (figuresFor e (r .passes) (r .flips) (r .rows) (r .columns)) → x ≡ packedFigures (reportFigures r)
+      (x : ℕ) → x ≡ packedFigures (figuresFor e (r .passes) (r .bits) (r .rows) (r .columns)) → x ≡ packedFigures (reportFigures r)
   packed-here x q = q ∙ ap packedFigures (sym here)
 
 -- an answer's values, by its case

@@ -13,19 +13,19 @@ ghost use Rattle.frame.specs.Said.{reportFigures, figures};
 // The bit at which each value stands; the number is at bit 0.
 const PASSES_AT: u64 = 8;
 
-const FLIPS_AT: u64 = 16;
+const BITS_AT: u64 = 16;
 
 const ROWS_AT: u64 = 32;
 
 const COLUMNS_AT: u64 = 48;
 
-fn pack(number: u32, passes: usize, flips: usize, rows: usize, columns: usize) -> u64
-    requires { ⌜ HasRoom (figuresWith number passes flips rows columns) ⌝ }
-    ensures { λ r. ⌜ r ≡ packedFigures (figuresWith number passes flips rows columns) ⌝ }
+fn pack(number: u32, passes: usize, bits: usize, rows: usize, columns: usize) -> u64
+    requires { ⌜ HasRoom (figuresWith number passes bits rows columns) ⌝ }
+    ensures { λ r. ⌜ r ≡ packedFigures (figuresWith number passes bits rows columns) ⌝ }
 {
     (number as u64)
         | ((passes as u64) << PASSES_AT)
-        | ((flips as u64) << FLIPS_AT)
+        | ((bits as u64) << BITS_AT)
         | ((rows as u64) << ROWS_AT)
         | ((columns as u64) << COLUMNS_AT)
 }
@@ -37,10 +37,10 @@ fn pack_report(r: Report) -> u64
 {
     let ending = r.ending;
     match ending {
-        Ending::Clean => pack(DONE, r.passes, r.flips, 0, 0),
-        Ending::Repaired => pack(DONE, r.passes, r.flips, 0, 0),
-        Ending::Stuck => pack(STUCK, r.passes, r.flips, r.rows, r.columns),
-        Ending::Spent => pack(SPENT, r.passes, r.flips, r.rows, r.columns),
+        Ending::Clean => pack(DONE, r.passes, r.bits, 0, 0),
+        Ending::Repaired => pack(DONE, r.passes, r.bits, 0, 0),
+        Ending::Stuck => pack(STUCK, r.passes, r.bits, r.rows, r.columns),
+        Ending::Spent => pack(SPENT, r.passes, r.bits, r.rows, r.columns),
     }
 }
 

@@ -15,6 +15,7 @@ pub mod SettleLaws
 -- Frames, word by word
 pub mod TurnLaws
 pub mod CornerLaws
+pub mod CountLaws
 pub mod PassLoopLaws
 pub mod PassStepLaws
 -- The entry points

@@ -17,13 +17,13 @@ use Rattle.rules.specs.Codes.{Code, radiusLimit}
 use Rattle.rules.specs.Words.{checks, isCodeword, answer, places, mend}
 use Rattle.rules.specs.Frames.{Frame, row, badRows, badColumns, isFrame, Square}
 use Rattle.rules.specs.Bits.{frameOf, bytesOf}
-use Rattle.rules.specs.Passes.{pass, differences, counted, clean, repaired, stuck, spent, Ending, Outcome, isStuck, passesFrom, decoded}
+use Rattle.rules.specs.Passes.{pass, differences, counted, clean, repaired, stuck, spent, Ending, Outcome, good, isStuck, passesFrom, decoded}
 use Rattle.rules.proofs.Laws.CodeLaws.{Sound}
 use Rattle.rules.proofs.Laws.Shape.{frameOf-square}
 use Rattle.rules.proofs.Laws.PackLaws.{bytesOf-length, frame-of-bytes}
 use Rattle.rules.proofs.Laws.PassLaws.{decoded-clean, decoded-passes, step-repaired, step-stuck, step-on, step-spent}
 use Rattle.laws.specs.InPlace.{wordAt, put, Inside}
-use Rattle.laws.specs.Turns.{turned, startOf, stepOf, worked, Whole, Ready, mostChanges}
+use Rattle.laws.specs.Turns.{turned, startOf, stepOf, worked, Whole, Ready}
 use Rattle.laws.proofs.TurnLaws.{frame-counted, turned-square, word-inside, word-there, worked-none, worked-later, worked-square, put-worked}
 use Rattle.rules.proofs.Laws.FlipLaws.{flipsOf}
 use Rattle.rules.proofs.Promises.CountBounds.{mend-flips}
@@ -138,29 +138,28 @@ passing-all code {n = n} {k = k} p all = let e : k ≡ n = omega (arith, p .with
 -- ---- the passes
 
 -- after `made` passes, none of them the last: what is left to do gives the whole outcome
-pub record Repairing (code : Code) (n a : ℕ) (f : Frame) (s : List ℕ) (made flips : ℕ) : Type 0 where
+pub record Repairing (code : Code) (n a : ℕ) (f : Frame) (s : List ℕ) (made : ℕ) : Type 0 where
   pub ready : Ready code n s
   pub allowed : made < a
-  pub few : flips ≤ mostChanges * made
-  pub same : decoded code n a f ≡ passesFrom code n f (a - made) made flips (frameOf n s)
+  pub same : decoded code n a f ≡ passesFrom code n f (a - made) made (frameOf n s)
 
 -- the outcome, its frame the one in the buffer
 abbrev outcomeIn : ℕ → List ℕ → Ending → ℕ → ℕ → ℕ → ℕ → Outcome
-outcomeIn n s e p f r c = record { ending = e; passes = p; flips = f; rows = r; columns = c; last = frameOf n s }
+outcomeIn n s e p b r c = record { ending = e; passes = p; bits = b; rows = r; columns = c; last = frameOf n s }
 
-pub record Ended (code : Code) (n a : ℕ) (f : Frame) (s : List ℕ) (e : Ending) (passes flips rows columns : ℕ) : Type 0 where
+pub record Ended (code : Code) (n a : ℕ) (f : Frame) (s : List ℕ) (e : Ending) (passes bits rows columns : ℕ) : Type 0 where
   pub outcome :
       decoded code n a f
-      ≡ record { ending = e; passes = passes; flips = flips; rows = rows; columns = columns; last = frameOf n s }
+      ≡ record { ending = e; passes = passes; bits = bits; rows = rows; columns = columns; last = frameOf n s }
   pub packed : s ≡ bytesOf n (frameOf n s)
 
 pub repairing-none :
-    (code : Code) (n a : ℕ) (s : List ℕ) → Ready code n s → 1 ≤ a → isFrame code n (frameOf n s) ≡ false → Repairing code n a (frameOf n s) s 0 0
-repairing-none code n a s r h t = record {
+    (code : Code) (n a : ℕ) (f : Frame) (s : List ℕ) → Ready code n s → frameOf n s ≡ f → 1 ≤ a → isFrame code n (frameOf n s) ≡ false
+    → Repairing code n a f s 0
+repairing-none code n a f s r copied h t = record {
   ready = r;
   allowed = omega arith;
-  few = omega arith;
-  same = decoded-passes code n a (frameOf n s) t ∙ ap (λ m. passesFrom code n (frameOf n s) m 0 0 (frameOf n s)) z;
+  same = decoded-passes code n a f (ap (isFrame code n) (sym copied) ∙ t) ∙ ap₂ (λ m g. passesFrom code n f m 0 g) z (sym copied);
 }
   where
     z : a ≡ a - 0
@@ -168,8 +167,8 @@ repairing-none code n a s r h t = record {
 
 -- in the midst of a pass the buffer is still one of a frame's size
 pub passing-whole :
-    (code : Code) {n a : ℕ} {f : Frame} {s : List ℕ} {made flips : ℕ} {columns : Bool} {t : List ℕ} {changes k : ℕ}
-    → Repairing code n a f s made flips → Passing code n (frameOf n s) columns t changes k → Whole code n t
+    (code : Code) {n a : ℕ} {f : Frame} {s : List ℕ} {made : ℕ} {columns : Bool} {t : List ℕ} {changes k : ℕ}
+    → Repairing code n a f s made → Passing code n (frameOf n s) columns t changes k → Whole code n t
 passing-whole code {n = n} {s = s} {columns = columns} {k = k} r p =
     (r .ready .0 .0, r .ready .0 .1, ap length (p .done) ∙ bytesOf-length n (worked n columns (mend code n) k (frameOf n s)))
 
@@ -191,32 +190,34 @@ module _ (code : Code) (n : ℕ) (g : Frame) (rows columns : ℕ) (hr : rows ≡
 
 -- outcomes are known by their parts
 outcome-ext :
-    (e : Ending) (p q f g r s c d : ℕ) (x y : Frame) → p ≡ q → f ≡ g → r ≡ s → c ≡ d → x ≡ y
-    → _≡_ {A = Outcome} (record { ending = e; passes = p; flips = f; rows = r; columns = c; last = x })
-    (record { ending = e; passes = q; flips = g; rows = s; columns = d; last = y })
-outcome-ext e p q f g r s c d x y hp hf hr hc hx = rw (hp, hf, hr, hc, hx)
+    (e : Ending) (p q b b′ r s c d : ℕ) (x y : Frame) → p ≡ q → b ≡ b′ → r ≡ s → c ≡ d → x ≡ y
+    → _≡_ {A = Outcome} (record { ending = e; passes = p; bits = b; rows = r; columns = c; last = x })
+    (record { ending = e; passes = q; bits = b′; rows = s; columns = d; last = y })
+outcome-ext e p q b b′ r s c d x y hp hb hr hc hx = rw (hp, hb, hr, hc, hx)
 
 -- a frame of codewords is clean
 pub ended-clean :
-    (code : Code) (n a : ℕ) (s : List ℕ) (rows columns : ℕ) → Ready code n s → rows ≡ badRows code n (turned n false (frameOf n s))
-    → columns ≡ badRows code n (turned n true (frameOf n s)) → rows + columns ≡ 0 → Ended code n a (frameOf n s) s clean 0 0 0 0
-ended-clean code n a s rows columns r hr hc z = record {
-  outcome = decoded-clean code n a (frameOf n s) (frame-whole code n (frameOf n s) rows columns hr hc z);
+    (code : Code) (n a : ℕ) (f : Frame) (s : List ℕ) (rows columns : ℕ) → Ready code n s → frameOf n s ≡ f
+    → rows ≡ badRows code n (turned n false (frameOf n s)) → columns ≡ badRows code n (turned n true (frameOf n s)) → rows + columns ≡ 0
+    → Ended code n a f s clean 0 0 0 0
+ended-clean code n a f s rows columns r copied hr hc z = record {
+  outcome = decoded-clean code n a f (ap (isFrame code n) (sym copied) ∙ frame-whole code n (frameOf n s) rows columns hr hc z)
+      ∙ ap (good clean 0 0) (sym copied);
   packed = r .1;
 }
 
 -- a pass made from s to t: all its words are mended, by rows or by columns, and the bad ones counted
-pub record Made (code : Code) (n a : ℕ) (f : Frame) (s : List ℕ) (made flips : ℕ) (t : List ℕ) (changes rows columns : ℕ) : Type 0 where
-  pub before : Repairing code n a f s made flips
+pub record Made (code : Code) (n a : ℕ) (f : Frame) (s : List ℕ) (made : ℕ) (t : List ℕ) (changes rows columns : ℕ) : Type 0 where
+  pub before : Repairing code n a f s made
   pub by-columns : Bool
   pub mended : Passing code n (frameOf n s) by-columns t changes n
   pub rows-bad : rows ≡ badRows code n (turned n false (frameOf n t))
   pub columns-bad : columns ≡ badRows code n (turned n true (frameOf n t))
 
 -- and its direction is the rule's
-module _ (code : Code) (ok : Sound code)
-    {n a : ℕ} {f : Frame} {s : List ℕ} {made flips : ℕ} {t : List ℕ} {changes rows columns : ℕ}
-    (m : Made code n a f s made flips t changes rows columns) (turn : m .by-columns ≡ isOdd made)
+module _ (code : Code)
+    {n a : ℕ} {f : Frame} {s : List ℕ} {made : ℕ} {t : List ℕ} {changes rows columns : ℕ}
+    (m : Made code n a f s made t changes rows columns) (turn : m .by-columns ≡ isOdd made)
   where
     p : Passing code n (frameOf n s) (isOdd made) t changes n
     p = rw turn at (m .mended)
@@ -238,22 +239,19 @@ module _ (code : Code) (ok : Sound code)
     pass-ready : Ready code n t
     pass-ready = (passing-whole code (m .before) p, t-bytes ∙ ap (bytesOf n) (sym t-frame))
 
-    so : {e : Ending} {p fl x y : ℕ} → decoded code n a f ≡ outcomeIn n t e p fl x y → Ended code n a f t e p fl x y
+    so : {e : Ending} {p b x y : ℕ} → decoded code n a f ≡ outcomeIn n t e p b x y → Ended code n a f t e p b x y
     so o = record { outcome = o; packed = pass-ready .1 }
 
     changed : changes ≡ differences n (frameOf n s) after
     changed = p .flips ∙ pass-flips code n made (frameOf n s) (frameOf-square n s)
 
-    flipped : counted n f flips (frameOf n s) after ≡ flips + changes
-    flipped = ap (λ m. flips + m) (sym changed)
-
     next : suc made ≡ made + 1
     next = omega arith
 
-    begun : decoded code n a f ≡ passesFrom code n f (suc (a - (made + 1))) made flips (frameOf n s)
+    begun : decoded code n a f ≡ passesFrom code n f (suc (a - (made + 1))) made (frameOf n s)
     begun =
         let left : a - made ≡ suc (a - (made + 1)) = omega (arith, m .before .allowed) in
-        m .before .same ∙ ap (λ m. passesFrom code n f m made flips (frameOf n s)) left
+        m .before .same ∙ ap (λ m. passesFrom code n f m made (frameOf n s)) left
 
     rows-are : badRows code n after ≡ rows
     rows-are = ap (badRows code n) (sym t-frame) ∙ sym (rows-is code n (frameOf n t) rows columns (m .rows-bad) (m .columns-bad))
@@ -267,50 +265,52 @@ module _ (code : Code) (ok : Sound code)
     not-frame : rows + columns ≢ 0 → isFrame code n after ≡ false
     not-frame z = ap (isFrame code n) (sym t-frame) ∙ frame-not code n (frameOf n t) rows columns (m .rows-bad) (m .columns-bad) z
 
-    pub ended-repaired : rows + columns ≡ 0 → Ended code n a f t repaired (made + 1) (flips + changes) rows columns
-    ended-repaired z =
-        so (begun
-        ∙ step-repaired code n f (a - (made + 1)) made flips (frameOf n s) (whole z)
-        ∙ outcome-ext repaired (suc made) (made + 1) (counted n f flips (frameOf n s) after) (flips + changes) 0 rows 0 columns after (frameOf n t)
-        next flipped (omega arith) (omega arith) (sym t-frame))
-
-    pub ended-stuck :
-        rows + columns ≢ 0 → isStuck (made + 1) changes ≡ true
-        → Ended code n a f t stuck (made + 1) (flips + changes) rows columns
-    ended-stuck z idle =
-        so (begun
-        ∙ step-stuck code n f (a - (made + 1)) made flips (frameOf n s) (not-frame z)
-        (ap₂ isStuck next (sym changed) ∙ idle)
-        ∙ outcome-ext stuck (suc made) (made + 1) (counted n f flips (frameOf n s) after) (flips + changes)
-        (badRows code n after) rows (badColumns code n after) columns after (frameOf n t) next flipped rows-are columns-are (sym t-frame))
-
     gone-on :
         rows + columns ≢ 0 → isStuck (made + 1) changes ≡ false
-        → decoded code n a f ≡ passesFrom code n f (a - (made + 1)) (made + 1) (flips + changes) (frameOf n t)
+        → decoded code n a f ≡ passesFrom code n f (a - (made + 1)) (made + 1) (frameOf n t)
     gone-on z moved =
         begun
-        ∙ step-on code n f (a - (made + 1)) made flips (frameOf n s) (not-frame z)
+        ∙ step-on code n f (a - (made + 1)) made (frameOf n s) (not-frame z)
         (ap₂ isStuck next (sym changed) ∙ moved)
-        ∙ rw (flipped, ← t-frame, next)
-
-    pub ended-spent :
-        rows + columns ≢ 0 → isStuck (made + 1) changes ≡ false → made + 1 ≡ a
-        → Ended code n a f t spent (made + 1) (flips + changes) rows columns
-    ended-spent z moved last =
-        let none : a - (made + 1) ≡ 0 = omega arith in
-        so (gone-on z moved
-        ∙ ap (λ m. passesFrom code n f m (made + 1) (flips + changes) (frameOf n t)) none
-        ∙ step-spent code n f (made + 1) (flips + changes) (frameOf n t)
-        ∙ outcome-ext spent (made + 1) (made + 1) (flips + changes) (flips + changes)
-        (badRows code n (frameOf n t)) rows (badColumns code n (frameOf n t)) columns (frameOf n t) (frameOf n t)
-        refl refl (sym (rows-is code n (frameOf n t) rows columns (m .rows-bad) (m .columns-bad))) (sym (columns-is code n (frameOf n t) rows columns (m .rows-bad) (m .columns-bad))) refl)
+        ∙ rw (← t-frame, next)
 
     pub repairing-more :
-        rows + columns ≢ 0 → isStuck (made + 1) changes ≡ false → made + 1 ≢ a
-        → Repairing code n a f t (made + 1) (flips + changes)
+        rows + columns ≢ 0 → isStuck (made + 1) changes ≡ false → made + 1 ≢ a → Repairing code n a f t (made + 1)
     repairing-more z moved some = record {
       ready = pass-ready;
       allowed = omega (arith, m .before .allowed);
-      few = omega (arith, m .before .few, p .few, m .before .ready .0 .1, ok .not-long);
       same = gone-on z moved;
     }
+
+    -- the passes have ended: the bits in which the buffer differs from the received frame are counted
+    module _ (bits : ℕ) (count : bits ≡ differences n f (frameOf n t)) where
+      count-is : counted n f after ≡ bits
+      count-is = ap (differences n f) (sym t-frame) ∙ sym count
+
+      pub ended-repaired : rows + columns ≡ 0 → Ended code n a f t repaired (made + 1) bits rows columns
+      ended-repaired z =
+          so (begun
+          ∙ step-repaired code n f (a - (made + 1)) made (frameOf n s) (whole z)
+          ∙ outcome-ext repaired (suc made) (made + 1) (counted n f after) bits 0 rows 0 columns after (frameOf n t)
+          next count-is (omega arith) (omega arith) (sym t-frame))
+
+      pub ended-stuck :
+          rows + columns ≢ 0 → isStuck (made + 1) changes ≡ true → Ended code n a f t stuck (made + 1) bits rows columns
+      ended-stuck z idle =
+          so (begun
+          ∙ step-stuck code n f (a - (made + 1)) made (frameOf n s) (not-frame z)
+          (ap₂ isStuck next (sym changed) ∙ idle)
+          ∙ outcome-ext stuck (suc made) (made + 1) (counted n f after) bits
+          (badRows code n after) rows (badColumns code n after) columns after (frameOf n t) next count-is rows-are columns-are (sym t-frame))
+
+      pub ended-spent :
+          rows + columns ≢ 0 → isStuck (made + 1) changes ≡ false → made + 1 ≡ a
+          → Ended code n a f t spent (made + 1) bits rows columns
+      ended-spent z moved last =
+          let none : a - (made + 1) ≡ 0 = omega arith in
+          so (gone-on z moved
+          ∙ ap (λ m. passesFrom code n f m (made + 1) (frameOf n t)) none
+          ∙ step-spent code n f (made + 1) (frameOf n t)
+          ∙ outcome-ext spent (made + 1) (made + 1) (counted n f (frameOf n t)) bits
+          (badRows code n (frameOf n t)) rows (badColumns code n (frameOf n t)) columns (frameOf n t) (frameOf n t)
+          refl (sym count) (sym (rows-is code n (frameOf n t) rows columns (m .rows-bad) (m .columns-bad))) (sym (columns-is code n (frameOf n t) rows columns (m .rows-bad) (m .columns-bad))) refl)

@@ -5,9 +5,9 @@ use Prim.Native.Nat.{ℕ, zero, suc, _+_, _*_, _-_, _/_, _%_, _^_, _≤_, _<_}
 use lib.ListN.{length, getD, set}
 use Rattle.algebra.specs.Xor.{_⊕_}
 use Rattle.algebra.specs.Tables.{tab}
-use Rattle.algebra.specs.Words.{Word, bit}
+use Rattle.algebra.specs.Words.{Word, bit, differ}
 use Rattle.rules.specs.Codes.{Code, lengthLimit}
-use Rattle.rules.specs.Bits.{squareBytes, bitAt}
+use Rattle.rules.specs.Bits.{squareBytes, bitAt, wordOf}
 
 -- bit j of the word that starts at bit `start` and goes by `step`
 unfoldable pub bitsAt : List ℕ → ℕ → ℕ → ℕ → Bool
@@ -15,6 +15,10 @@ bitsAt s start step j = bitAt s (start + j * step)
 
 unfoldable pub wordAt : ℕ → List ℕ → ℕ → ℕ → Word
 wordAt n s start step = tab n (bitsAt s start step)
+
+-- in how many of the m bits from byte `at` on two buffers differ
+unfoldable pub differAt : ℕ → List ℕ → List ℕ → ℕ → ℕ
+differAt m s t at = differ (wordOf m s (at * 8)) (wordOf m t (at * 8))
 
 -- the bytes of the longest frame that any code may have, and its bits, so that a step is smaller
 abbrev pub mostBytes : ℕ

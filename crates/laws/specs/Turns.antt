@@ -7,7 +7,7 @@ use lib.Dec.{ltb}
 use lib.ListN.{length, take}
 use Rattle.algebra.specs.Tables.{tab}
 use Rattle.algebra.specs.Words.{Word}
-use Rattle.rules.specs.Codes.{Code, dataBits, lengthLimit, radiusLimit}
+use Rattle.rules.specs.Codes.{Code, dataBits}
 use Rattle.rules.specs.Words.{encodeWord}
 use Rattle.rules.specs.Frames.{Frame, row, cell, transposed}
 use Rattle.rules.specs.Bits.{stride, squareBytes, frameOf, bytesOf}
@@ -51,6 +51,6 @@ Whole code n s = (code .shortest ≤ n) × (n ≤ code .longest) × (length s �
 abbrev pub Ready : Code → ℕ → List ℕ → Type 0
 Ready code n s = Whole code n s × (s ≡ bytesOf n (frameOf n s))
 
--- a pass changes no more bits than this, whatever the code
-abbrev pub mostChanges : ℕ
-mostChanges = radiusLimit * lengthLimit
+-- one that is ready, with the code bits of the received one
+abbrev pub Copied : Code → ℕ → List ℕ → List ℕ → Type 0
+Copied code n received s = Ready code n s × (length received ≡ squareBytes n) × (frameOf n s ≡ frameOf n received)

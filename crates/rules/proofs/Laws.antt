@@ -17,6 +17,7 @@ pub mod EncodeWordLaws
 pub mod FrameLaws
 pub mod ProductLaws
 pub mod PassLaws
+pub mod DifferenceLaws
 pub mod FlipLaws
 pub mod TwoPasses
 -- Numbers

@@ -90,7 +90,7 @@ readOutput code n input output =
 -- what decoding says
 pub data Decoded : Type 0 where
   refused : ℕ → Decoded
-  -- passes, flips, rows, columns
+  -- passes, bits, rows, columns
   ended : Ending → ℕ → ℕ → ℕ → ℕ → Decoded
 
 -- numbers 1 to 4
@@ -104,7 +104,7 @@ decodeRefusal code n allowance input output = first (decodeRefusals code n allow
 
 -- what is said of an outcome: all but its frame
 abbrev pub told : Outcome → Decoded
-told o = ended (o .ending) (o .passes) (o .flips) (o .rows) (o .columns)
+told o = ended (o .ending) (o .passes) (o .bits) (o .rows) (o .columns)
 
 -- the refusal, or what is said of the outcome
 unfoldable pub decodeSaid : Code → ℕ → ℕ → List ℕ → List ℕ → Decoded
@@ -126,21 +126,21 @@ decodeOutput code n allowance input output =
 pub record Figures : Type 0 where
   pub number : ℕ
   pub passes : ℕ
-  pub flips : ℕ
+  pub bits : ℕ
   pub rows : ℕ
   pub columns : ℕ
 
 -- a refusal has no values, and a success no rows and columns
 abbrev pub figuresOf : Decoded → Figures
-figuresOf (refused r) = record { number = r; passes = 0; flips = 0; rows = 0; columns = 0 }
-figuresOf (ended clean p f r c) = record { number = 0; passes = p; flips = f; rows = 0; columns = 0 }
-figuresOf (ended repaired p f r c) = record { number = 0; passes = p; flips = f; rows = 0; columns = 0 }
-figuresOf (ended stuck p f r c) = record { number = 7; passes = p; flips = f; rows = r; columns = c }
-figuresOf (ended spent p f r c) = record { number = 8; passes = p; flips = f; rows = r; columns = c }
+figuresOf (refused r) = record { number = r; passes = 0; bits = 0; rows = 0; columns = 0 }
+figuresOf (ended clean p b r c) = record { number = 0; passes = p; bits = b; rows = 0; columns = 0 }
+figuresOf (ended repaired p b r c) = record { number = 0; passes = p; bits = b; rows = 0; columns = 0 }
+figuresOf (ended stuck p b r c) = record { number = 7; passes = p; bits = b; rows = r; columns = c }
+figuresOf (ended spent p b r c) = record { number = 8; passes = p; bits = b; rows = r; columns = c }
 
 -- figures by their order in the report
 abbrev pub figuresWith : ℕ → ℕ → ℕ → ℕ → ℕ → Figures
-figuresWith k p f r c = record { number = k; passes = p; flips = f; rows = r; columns = c }
+figuresWith k p b r c = record { number = k; passes = p; bits = b; rows = r; columns = c }
 
 -- the number alone
 abbrev pub number : Decoded → ℕ

@@ -2,15 +2,15 @@
 use Prim.Native.Nat.{ℕ, _+_, _*_, _/_, _%_, _^_, _<_}
 use Rattle.rules.specs.Numbers.{Figures}
 
--- from the lowest bit up: 8 bits each for number and passes, 16 each for flips, rows and columns
+-- from the lowest bit up: 8 bits each for number and passes, 16 each for bits, rows and columns
 unfoldable pub packedFigures : Figures → ℕ
-packedFigures f = f .number + f .passes * 2 ^ 8 + f .flips * 2 ^ 16 + f .rows * 2 ^ 32 + f .columns * 2 ^ 48
+packedFigures f = f .number + f .passes * 2 ^ 8 + f .bits * 2 ^ 16 + f .rows * 2 ^ 32 + f .columns * 2 ^ 48
 
 -- every value has room
 pub record HasRoom (f : Figures) : Type 0 where
   pub number : f .number < 2 ^ 8
   pub passes : f .passes < 2 ^ 8
-  pub flips : f .flips < 2 ^ 16
+  pub bits : f .bits < 2 ^ 16
   pub rows : f .rows < 2 ^ 16
   pub columns : f .columns < 2 ^ 16
 
@@ -24,7 +24,7 @@ unpackedFigures x =
     record {
       number = bitsFrom 0 8 x;
       passes = bitsFrom 8 8 x;
-      flips = bitsFrom 16 16 x;
+      bits = bitsFrom 16 16 x;
       rows = bitsFrom 32 16 x;
       columns = bitsFrom 48 16 x;
     }

@@ -74,19 +74,19 @@ questioned k = reportLine (ascii "?") (decimal k ∷ [])
 -- a record's second field: how its decoding ended, or that the frame was refused
 abbrev pub endingText : Decoded → Text
 endingText (refused r) = ascii "refused"
-endingText (ended clean p f r c) = ascii "clean"
-endingText (ended repaired p f r c) = ascii "repaired"
-endingText (ended stuck p f r c) = ascii "stuck"
-endingText (ended spent p f r c) = ascii "spent"
+endingText (ended clean p b r c) = ascii "clean"
+endingText (ended repaired p b r c) = ascii "repaired"
+endingText (ended stuck p b r c) = ascii "stuck"
+endingText (ended spent p b r c) = ascii "spent"
 
--- passes, flips, rows, columns
+-- passes, bits, rows, columns
 abbrev pub counts : Figures → List ℕ
-counts v = v .passes ∷ v .flips ∷ v .rows ∷ v .columns ∷ []
+counts v = v .passes ∷ v .bits ∷ v .rows ∷ v .columns ∷ []
 
 -- a record's last four fields; a refusal has its number in the place of the passes
 abbrev pub reportedCounts : Decoded → List ℕ
 reportedCounts (refused r) = r ∷ 0 ∷ 0 ∷ 0 ∷ []
-reportedCounts (ended e p f r c) = counts (figuresOf (ended e p f r c))
+reportedCounts (ended e p b r c) = counts (figuresOf (ended e p b r c))
 
 -- what a record gives, from what decoding said
 abbrev pub recordText : ℕ → Decoded → Text

@@ -203,13 +203,13 @@ word-refused code n input output h =
 pub handed :
     (n : ℕ) (input : List ℕ) (o : Outcome)
     → handedOut n input o ≡ pick (eqb (number (told o)) 0) (bytesOf n (o .last)) input
-handed n input o = go (o .ending) (o .passes) (o .flips) (o .rows) (o .columns)
+handed n input o = go (o .ending) (o .passes) (o .bits) (o .rows) (o .columns)
   where
     go :
-        (e : Ending) (p f r c : ℕ)
+        (e : Ending) (p b r c : ℕ)
         → elim e as (λ x. List ℕ) [ clean ↦ bytesOf n (o .last) | repaired ↦ bytesOf n (o .last) | stuck ↦ input | spent ↦ input ]
-        ≡ pick (eqb (number (ended e p f r c)) 0) (bytesOf n (o .last)) input
-    go clean p f r c = refl
-    go repaired p f r c = refl
-    go stuck p f r c = refl
-    go spent p f r c = refl
+        ≡ pick (eqb (number (ended e p b r c)) 0) (bytesOf n (o .last)) input
+    go clean p b r c = refl
+    go repaired p b r c = refl
+    go stuck p b r c = refl
+    go spent p b r c = refl

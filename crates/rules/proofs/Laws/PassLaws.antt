@@ -34,25 +34,25 @@ use Rattle.rules.proofs.Laws.PatternLaws.{changed-length}
 module _ (code : Code) (n a : ℕ) (f : Frame) where
   abbrev begun : Bool → Outcome
   begun true = good clean 0 0 f
-  begun false = passesFrom code n f a 0 0 f
+  begun false = passesFrom code n f a 0 f
 
   begins : decoded code n a f ≡ begun (isFrame code n f)
   unfolding decoded
   begins = go (isFrame code n f)
     where
-      go : (b : Bool) → elim b as (λ x. Outcome) [ true ↦ good clean 0 0 f | false ↦ passesFrom code n f a 0 0 f ] ≡ begun b
+      go : (b : Bool) → elim b as (λ x. Outcome) [ true ↦ good clean 0 0 f | false ↦ passesFrom code n f a 0 f ] ≡ begun b
       go true = refl
       go false = refl
 
   pub decoded-clean : isFrame code n f ≡ true → decoded code n a f ≡ good clean 0 0 f
   decoded-clean h = begins ∙ ap begun h
 
-  pub decoded-passes : isFrame code n f ≡ false → decoded code n a f ≡ passesFrom code n f a 0 0 f
+  pub decoded-passes : isFrame code n f ≡ false → decoded code n a f ≡ passesFrom code n f a 0 f
   decoded-passes h = begins ∙ ap begun h
 
 -- ---- after a pass: the first of the three endings that holds, or one more pass
 
-module _ (code : Code) (n : ℕ) (received : Frame) (left made flips : ℕ) (f : Frame) where
+module _ (code : Code) (n : ℕ) (received : Frame) (left made : ℕ) (f : Frame) where
   abbrev after : Frame
   after = pass code n (suc made) f
 
@@ -60,21 +60,21 @@ module _ (code : Code) (n : ℕ) (received : Frame) (left made flips : ℕ) (f :
   changes = differences n f after
 
   abbrev chosen : Bool → Bool → Outcome
-  chosen true s = good repaired (suc made) (counted n received flips f after) after
-  chosen false true = bad code stuck (suc made) (counted n received flips f after) n after
-  chosen false false = passesFrom code n received left (suc made) (counted n received flips f after) after
+  chosen true s = good repaired (suc made) (counted n received after) after
+  chosen false true = bad code stuck (suc made) (counted n received after) n after
+  chosen false false = passesFrom code n received left (suc made) after
 
-  steps : passesFrom code n received (suc left) made flips f ≡ chosen (isFrame code n after) (isStuck (suc made) changes)
+  steps : passesFrom code n received (suc left) made f ≡ chosen (isFrame code n after) (isStuck (suc made) changes)
   unfolding passesFrom
   steps = go (isFrame code n after) (isStuck (suc made) changes)
     where
       go :
           (b s : Bool)
           → elim b as (λ x. Outcome) [
-            | true ↦ good repaired (suc made) (counted n received flips f after) after
+            | true ↦ good repaired (suc made) (counted n received after) after
             | false ↦ elim s as (λ x. Outcome) [
-              | true ↦ bad code stuck (suc made) (counted n received flips f after) n after
-              | false ↦ passesFrom code n received left (suc made) (counted n received flips f after) after
+              | true ↦ bad code stuck (suc made) (counted n received after) n after
+              | false ↦ passesFrom code n received left (suc made) after
             ]
           ]
           ≡ chosen b s
@@ -82,22 +82,22 @@ module _ (code : Code) (n : ℕ) (received : Frame) (left made flips : ℕ) (f :
       go false true = refl
       go false false = refl
 
-  pub step-repaired : isFrame code n after ≡ true → passesFrom code n received (suc left) made flips f ≡ good repaired (suc made) (counted n received flips f after) after
+  pub step-repaired : isFrame code n after ≡ true → passesFrom code n received (suc left) made f ≡ good repaired (suc made) (counted n received after) after
   step-repaired h = steps ∙ ap (λ b. chosen b (isStuck (suc made) changes)) h
 
   pub step-stuck :
       isFrame code n after ≡ false → isStuck (suc made) changes ≡ true
-      → passesFrom code n received (suc left) made flips f ≡ bad code stuck (suc made) (counted n received flips f after) n after
+      → passesFrom code n received (suc left) made f ≡ bad code stuck (suc made) (counted n received after) n after
   step-stuck h s = steps ∙ ap₂ chosen h s
 
   pub step-on :
       isFrame code n after ≡ false → isStuck (suc made) changes ≡ false
-      → passesFrom code n received (suc left) made flips f ≡ passesFrom code n received left (suc made) (counted n received flips f after) after
+      → passesFrom code n received (suc left) made f ≡ passesFrom code n received left (suc made) after
   step-on h s = steps ∙ ap₂ chosen h s
 
-pub step-spent : (code : Code) (n : ℕ) (received : Frame) (made flips : ℕ) (f : Frame) → passesFrom code n received 0 made flips f ≡ bad code spent made flips n f
+pub step-spent : (code : Code) (n : ℕ) (received : Frame) (made : ℕ) (f : Frame) → passesFrom code n received 0 made f ≡ bad code spent made (counted n received f) n f
 unfolding passesFrom
-step-spent code n received made flips f = refl
+step-spent code n received made f = refl
 
 -- ---- which way a pass goes
 

@@ -3,17 +3,15 @@
 use mathlib.Core.Path.{_≡_, refl, sym, ap, ap₂, _∙_}
 use mathlib.Core.Bool.{Bool, true, false, xor, _&&_, and-true, and-false}
 use mathlib.Core.List.{List, [], _∷_}
-use Prim.Native.Nat.{ℕ, zero, suc, _-_, _/_, _%_, _^_, _≤_, _<_}
+use Prim.Native.Nat.{ℕ, zero, suc, _-_, _/_, _^_, _≤_, _<_}
 use native.Mathlib.Nat.{pow-suc, zero-div}
 use native.Mathlib.Omega.{arith}
-use lib.Dec.{eqb}
 use lib.ListN.{length, drop}
 use Rattle.algebra.specs.Xor.{_⊕_}
 use Rattle.algebra.specs.Tables.{tab, ones}
 use Rattle.algebra.specs.Words.{Word, bit, _⊻_, kept, dot}
 use Rattle.algebra.specs.Remainder.{isOdd}
-use Rattle.algebra.proofs.Digits.{digits-case}
-use Rattle.algebra.proofs.XorLaws.{zero-⊕, ⊕-div, ⊕-digit, ⊕-self}
+use Rattle.algebra.proofs.XorLaws.{zero-⊕, ⊕-div, odd-⊕, ⊕-self}
 use Rattle.algebra.proofs.TableLaws.{tab-length, tab-ext, zero-count}
 use Rattle.algebra.proofs.WordLaws.{⊻-length, ⊻-bit, dot-none}
 use Rattle.rules.specs.Codes.{Code, dataBits}
@@ -34,12 +32,6 @@ digit b x = isOdd (x / 2 ^ b)
 digit-zero : (b : ℕ) → digit b 0 ≡ false
 unfolding digit
 digit-zero b = ap isOdd (zero-div (2 ^ b))
-
-odd-⊕ : (x y : ℕ) → isOdd (x ⊕ y) ≡ xor (isOdd x) (isOdd y)
-unfolding _⊕_ xor
-odd-⊕ x y =
-    ap (λ m. eqb m 1) (⊕-digit x y)
-    ∙ digits-case (λ p q. eqb (p ⊕ q) 1 ≡ xor (eqb p 1) (eqb q 1)) refl refl refl refl (x % 2) (y % 2) (omega arith) (omega arith)
 
 digit-⊕ : (b x y : ℕ) → digit b (x ⊕ y) ≡ xor (digit b x) (digit b y)
 unfolding digit

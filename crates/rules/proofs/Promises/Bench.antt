@@ -210,8 +210,8 @@ more =
     ∷ (decode 18 2 (rows3 0xE0 0xD0 0xC8), decodes 8 (ended spent 2 3 3 2) (rows3 0xE0 0xD0 0xC8))
     -- stuck at pass 3
     ∷ (decode 18 4 (rows3 0xE4 0xE0 0xE0), decodes 7 (ended stuck 3 1 3 3) (rows3 0xE4 0xE0 0xE0))
-    -- flips are summed over the passes: 2 that pass 1 adds, and 12 that pass 2 takes away
-    ∷ (decode 18 2 ten, decodes 0 (ended repaired 2 14 0 0) (zeros 54))
+    -- ten received bits were wrong, and ten are counted; pass 1 adds 2 and pass 2 takes away 12, which sums to 14
+    ∷ (decode 18 2 ten, decodes 0 (ended repaired 2 10 0 0) (zeros 54))
     ∷ []
 
 pub record MoreItems : Type 0 where

@@ -1,12 +1,12 @@
 -- RULES 5: how large the counts of an outcome can be: a word flips as many bits as its answer names places, a pass at most the radius
--- for each word.
+-- for each word, and the last frame differs from the received one in no more bits than all passes flipped.
 -- Assumes nothing.
 use mathlib.Core.Path.{_≡_, sym, ap, _∙_}
 use mathlib.Core.Bool.{Bool, true, false, not, cond}
 use mathlib.Core.List.{List}
 use mathlib.Core.Option.{Option, some, none}
-use Prim.Native.Nat.{ℕ, suc, _*_, _≤_}
-use native.Mathlib.Nat.{zero-add}
+use Prim.Native.Nat.{ℕ, zero, suc, _*_, _≤_}
+use native.Mathlib.Nat.{zero-add, mul-suc}
 use native.Mathlib.Omega.{arith}
 use lib.ListN.{length}
 use Rattle.algebra.specs.Tables.{ones, total}
@@ -22,13 +22,14 @@ use Rattle.rules.proofs.Laws.Shape.{transposed-square}
 use Rattle.rules.proofs.Laws.CodeLaws.{Sound}
 use Rattle.rules.proofs.Laws.SearchLaws.{places-length}
 use Rattle.rules.proofs.Laws.PatternLaws.{Rising, pattern, changed-pattern}
+use Rattle.rules.proofs.Laws.DifferenceLaws.{differences-self, differences-way}
 use Rattle.rules.proofs.Laws.FlipLaws.{flipsOf, rows-flips, columns-flips}
 use Rattle.rules.proofs.Promises.Answers.{Fits, answer-fits}
 use Rattle.rules.proofs.Promises.Passes.{after, changedBits, Ends, left, passes-promise}
 
 pub record CountBounds (code : Code) (n a : ℕ) (o : Outcome) : Type 0 where
   pub passes : o .passes ≤ a
-  pub flips : o .flips ≤ radius code * n * o .passes
+  pub bits : o .bits ≤ radius code * n * o .passes
   pub rows : o .rows ≤ n
   pub columns : o .columns ≤ n
 
@@ -79,6 +80,20 @@ module _ (code : Code) (ok : Sound code) (n : ℕ) (h : code .shortest ≤ n) wh
       go false sq =
           omega (arith, columns-flips code n (after code n f p) sq, rows-few (transposed n (after code n f p)) (transposed-square n (after code n f p)))
 
+  -- what p passes have changed, by way of what each left
+  differ-few : (f : Frame) → Square n f → (p : ℕ) → differences n f (after code n f p) ≤ radius code * n * p
+  unfolding after
+  differ-few f s zero = omega (arith, differences-self n f)
+  differ-few f s (suc p) =
+      let square = passes-promise code .square n f s in
+      omega (
+        arith,
+        differences-way n f (after code n f p) (after code n f (suc p)) s (square p) (square (suc p)),
+        differ-few f s p,
+        changes-few f s p,
+        mul-suc (radius code * n) p,
+      )
+
   left-few : (e : Ending) (x : ℕ) → x ≤ n → left e x ≤ n
   left-few clean x l = omega arith
   left-few repaired x l = omega arith
@@ -103,7 +118,7 @@ module _ (code : Code) (ok : Sound code) (n : ℕ) (h : code .shortest ≤ n) wh
       let g : Frame = after code n f (o .passes) in
       record {
         passes = passes-few a f (o .ending) (o .passes) (r .ends);
-        flips = rw (r .flips-are) (total-most (radius code * n) (o .passes) (changedBits code n f) (λ i l. changes-few f s i));
+        bits = rw (r .bits-are) (differ-few f s (o .passes));
         rows = rw (r .rows-are) (left-few (o .ending) (badRows code n g) (bad-few g));
         columns = rw (r .columns-are) (left-few (o .ending) (badColumns code n g) (bad-few (transposed n g)));
       }

@@ -30,10 +30,10 @@ use Rattle.rules.proofs.Promises.Determined.{frame-all, determined}
 -- the number and the values, case by case
 pub record NumbersPromise : Type 0 where
   pub refused-is : (r : ℕ) → figuresOf (refused r) ≡ figuresWith r 0 0 0 0
-  pub clean-is : (p f r c : ℕ) → figuresOf (ended clean p f r c) ≡ figuresWith 0 p f 0 0
-  pub repaired-is : (p f r c : ℕ) → figuresOf (ended repaired p f r c) ≡ figuresWith 0 p f 0 0
-  pub stuck-is : (p f r c : ℕ) → figuresOf (ended stuck p f r c) ≡ figuresWith 7 p f r c
-  pub spent-is : (p f r c : ℕ) → figuresOf (ended spent p f r c) ≡ figuresWith 8 p f r c
+  pub clean-is : (p b r c : ℕ) → figuresOf (ended clean p b r c) ≡ figuresWith 0 p b 0 0
+  pub repaired-is : (p b r c : ℕ) → figuresOf (ended repaired p b r c) ≡ figuresWith 0 p b 0 0
+  pub stuck-is : (p b r c : ℕ) → figuresOf (ended stuck p b r c) ≡ figuresWith 7 p b r c
+  pub spent-is : (p b r c : ℕ) → figuresOf (ended spent p b r c) ≡ figuresWith 8 p b r c
   pub word-refused-is : (r : ℕ) → wordNumber (wordRefused r) ≡ r
   -- some places, or none at all, make a codeword
   pub answered-is : (ps : List ℕ) → wordNumber (answered (some ps)) ≡ 0
@@ -214,10 +214,10 @@ rows-here code ok n input i = record { part = λ g. refuses code ok .row n input
 numbers-here : NumbersPromise
 numbers-here = record {
   refused-is = λ r. refl;
-  clean-is = λ p f r c. refl;
-  repaired-is = λ p f r c. refl;
-  stuck-is = λ p f r c. refl;
-  spent-is = λ p f r c. refl;
+  clean-is = λ p b r c. refl;
+  repaired-is = λ p b r c. refl;
+  stuck-is = λ p b r c. refl;
+  spent-is = λ p b r c. refl;
   word-refused-is = λ r. refl;
   answered-is = λ ps. refl;
   beyond-is = refl;

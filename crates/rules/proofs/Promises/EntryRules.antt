@@ -82,7 +82,7 @@ pub record DecodeRule (code : Code) (n allowance : ℕ) (input output : List ℕ
   pub ends :
       refusal ≡ 0
       → (o : Outcome) × PassRule code n allowance (frameOf n input) o
-      × (said ≡ ended (o .ending) (o .passes) (o .flips) (o .rows) (o .columns)) × (exit ≡ written n input (o .ending) (o .last))
+      × (said ≡ ended (o .ending) (o .passes) (o .bits) (o .rows) (o .columns)) × (exit ≡ written n input (o .ending) (o .last))
 
 -- a single word is refused for its sizes alone
 abbrev pub wordReasons : Code → ℕ → List ℕ → List ℕ → Reasons

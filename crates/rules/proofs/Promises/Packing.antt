@@ -26,12 +26,12 @@ pub record Packs : Type 0 where
   pub read-back : (f : Figures) → HasRoom f → unpackedFigures (packedFigures f) ≡ f
   -- five values that all differ, as a number. In hex, 0100 00C8 1200 20 08
   pub example :
-      packedFigures (record { number = 8; passes = 32; flips = 4608; rows = 200; columns = 256 }) ≡ 72058453333385224
+      packedFigures (record { number = 8; passes = 32; bits = 4608; rows = 200; columns = 256 }) ≡ 72058453333385224
 
 -- the counts of the small code's longest frames, at the greatest allowance
 record Few (o : Outcome) : Type 0 where
   passes : o .passes ≤ 32
-  flips : o .flips ≤ 16384
+  bits : o .bits ≤ 16384
   rows : o .rows ≤ 256
   columns : o .columns ≤ 256
 
@@ -44,25 +44,25 @@ decoded-few n a f h b some most s =
     let m : 2 * n * o .passes ≤ 512 * 32 = mul-le-mul wide few in
     record {
       passes = few;
-      flips = omega (arith, k .flips);
+      bits = omega (arith, k .bits);
       rows = omega (arith, k .rows);
       columns = omega (arith, k .columns);
     }
 
 values-fit :
-    (k p f r c : ℕ) → k ≤ 8 → p ≤ 32 → f ≤ 16384 → r ≤ 256 → c ≤ 256
-    → HasRoom (record { number = k; passes = p; flips = f; rows = r; columns = c })
-values-fit k p f r c hk hp hf hr hc =
-    record { number = omega arith; passes = omega arith; flips = omega arith; rows = omega arith; columns = omega arith }
+    (k p b r c : ℕ) → k ≤ 8 → p ≤ 32 → b ≤ 16384 → r ≤ 256 → c ≤ 256
+    → HasRoom (record { number = k; passes = p; bits = b; rows = r; columns = c })
+values-fit k p b r c hk hp hb hr hc =
+    record { number = omega arith; passes = omega arith; bits = omega arith; rows = omega arith; columns = omega arith }
 
 told-fits : (o : Outcome) → Few o → HasRoom (figuresOf (told o))
-told-fits o k = go (o .ending) (o .passes) (o .flips) (o .rows) (o .columns) (k .passes) (k .flips) (k .rows) (k .columns)
+told-fits o k = go (o .ending) (o .passes) (o .bits) (o .rows) (o .columns) (k .passes) (k .bits) (k .rows) (k .columns)
   where
-    go : (e : Ending) (p f r c : ℕ) → p ≤ 32 → f ≤ 16384 → r ≤ 256 → c ≤ 256 → HasRoom (figuresOf (ended e p f r c))
-    go clean p f r c hp hf hr hc = values-fit 0 p f 0 0 (omega arith) hp hf (omega arith) (omega arith)
-    go repaired p f r c hp hf hr hc = values-fit 0 p f 0 0 (omega arith) hp hf (omega arith) (omega arith)
-    go stuck p f r c hp hf hr hc = values-fit 7 p f r c (omega arith) hp hf hr hc
-    go spent p f r c hp hf hr hc = values-fit 8 p f r c (omega arith) hp hf hr hc
+    go : (e : Ending) (p b r c : ℕ) → p ≤ 32 → b ≤ 16384 → r ≤ 256 → c ≤ 256 → HasRoom (figuresOf (ended e p b r c))
+    go clean p b r c hp hb hr hc = values-fit 0 p b 0 0 (omega arith) hp hb (omega arith) (omega arith)
+    go repaired p b r c hp hb hr hc = values-fit 0 p b 0 0 (omega arith) hp hb (omega arith) (omega arith)
+    go stuck p b r c hp hb hr hc = values-fit 7 p b r c (omega arith) hp hb hr hc
+    go spent p b r c hp hb hr hc = values-fit 8 p b r c (omega arith) hp hb hr hc
 
 refused-fits : (r : ℕ) → r ≤ 4 → HasRoom (figuresOf (refused r))
 refused-fits r h = values-fit r 0 0 0 0 (omega arith) (omega arith) (omega arith) (omega arith) (omega arith)
@@ -85,8 +85,8 @@ said-fits n allowance received output =
 
 figures-ext :
     (a b c d e a′ b′ c′ d′ e′ : ℕ) → a ≡ a′ → b ≡ b′ → c ≡ c′ → d ≡ d′ → e ≡ e′
-    → _≡_ {A = Figures} (record { number = a; passes = b; flips = c; rows = d; columns = e })
-    (record { number = a′; passes = b′; flips = c′; rows = d′; columns = e′ })
+    → _≡_ {A = Figures} (record { number = a; passes = b; bits = c; rows = d; columns = e })
+    (record { number = a′; passes = b′; bits = c′; rows = d′; columns = e′ })
 figures-ext a b c d e a′ b′ c′ d′ e′ ha hb hc hd he = rw (ha, hb, hc, hd, he)
 
 module _ (a b c d e : ℕ) (ha : a < 256) (hb : b < 256) (hc : c < 65536) (hd : d < 65536) (he : e < 65536) where
@@ -101,11 +101,11 @@ module _ (a b c d e : ℕ) (ha : a < 256) (hb : b < 256) (hc : c < 65536) (hd : 
       (record {
         number = x / 1 % 256;
         passes = x / 256 % 256;
-        flips = x / 65536 % 65536;
+        bits = x / 65536 % 65536;
         rows = x / 4294967296 % 65536;
         columns = x / 281474976710656 % 65536;
       })
-      (record { number = a; passes = b; flips = c; rows = d; columns = e })
+      (record { number = a; passes = b; bits = c; rows = d; columns = e })
   sum-parts = figures-ext _ _ _ _ _ a b c d e (omega arith) (omega arith) (omega arith) (omega arith) (omega arith)
 
 pub packs : Packs
@@ -114,7 +114,7 @@ packs = record {
   fits = said-fits;
   example = refl;
   in-64-bits = λ f h.
-      sum-small (f .number) (f .passes) (f .flips) (f .rows) (f .columns) (h .number) (h .passes) (h .flips) (h .rows) (h .columns);
+      sum-small (f .number) (f .passes) (f .bits) (f .rows) (f .columns) (h .number) (h .passes) (h .bits) (h .rows) (h .columns);
   read-back = λ f h.
-      sum-parts (f .number) (f .passes) (f .flips) (f .rows) (f .columns) (h .number) (h .passes) (h .flips) (h .rows) (h .columns);
+      sum-parts (f .number) (f .passes) (f .bits) (f .rows) (f .columns) (h .number) (h .passes) (h .bits) (h .rows) (h .columns);
 }

@@ -8,15 +8,14 @@ use native.Mathlib.Omega.{arith}
 use native.Mathlib.Decide.{decLt}
 use lib.Dec.{leb, eqb}
 use borrow.Author.Tests.{leb-true, eqb-true, le-leb, eq-eqb}
-use Rattle.algebra.specs.Tables.{total}
 use Rattle.algebra.specs.Remainder.{isOdd}
-use Rattle.algebra.proofs.TableLaws.{total-none, total-last}
 use Rattle.rules.specs.Codes.{Code}
 use Rattle.rules.specs.Words.{mend}
 use Rattle.rules.specs.Frames.{Frame, Square, row, transposed, badRows, badColumns, isFrame}
 use Rattle.rules.specs.Passes.{passRows, passColumns, pass, differences, counted, isStuck, passesFrom, decoded}
 use Rattle.rules.specs.Passes.{Ending, clean, repaired, stuck, spent, Outcome}
 use Rattle.rules.proofs.Laws.PassLaws.{decoded-clean, decoded-passes, step-repaired, step-stuck, step-on, step-spent}
+use Rattle.rules.proofs.Laws.DifferenceLaws.{differences-self}
 use Rattle.rules.proofs.Laws.PassLaws.{passRows-row, passColumns-row, passRows-square, passColumns-square}
 
 -- ---- The statement
@@ -59,11 +58,12 @@ left repaired x = 0
 left stuck x = x
 left spent x = x
 
--- every value of an outcome: the flips are those of each pass, added up, and rows and columns are counted in the last frame
+-- every value of an outcome: the bits are those in which the last frame differs from the received one, and rows and columns are
+-- counted in the last frame
 pub record PassRule (code : Code) (n a : ℕ) (f : Frame) (o : Outcome) : Type 0 where
   pub ends : Ends code n a f (o .passes) (o .ending)
   pub last-is : o .last ≡ after code n f (o .passes)
-  pub flips-are : o .flips ≡ total (o .passes) (changedBits code n f)
+  pub bits-are : o .bits ≡ differences n f (after code n f (o .passes))
   pub rows-are : o .rows ≡ left (o .ending) (badRows code n (after code n f (o .passes)))
   pub columns-are : o .columns ≡ left (o .ending) (badColumns code n (after code n f (o .passes)))
 
@@ -106,18 +106,18 @@ is-stuck p c h = ap₂ _&&_ (le-leb 2 p (h .0)) (eq-eqb c 0 (h .1))
 
 -- ---- The rule holds
 
--- the numbers of an outcome, by its ending, passes, flips and frame
+-- the numbers of an outcome, by its ending, passes, bits and frame
 abbrev carried : Code → ℕ → Ending → ℕ → ℕ → Frame → Outcome
 carried code n e p x g =
-    record { ending = e; passes = p; flips = x; rows = left e (badRows code n g); columns = left e (badColumns code n g); last = g }
+    record { ending = e; passes = p; bits = x; rows = left e (badRows code n g); columns = left e (badColumns code n g); last = g }
 
 rule :
-    (code : Code) (n a : ℕ) (f : Frame) (e : Ending) (p x : ℕ) (g : Frame) → Ends code n a f p e → g ≡ after code n f p → x ≡ total p (changedBits code n f)
+    (code : Code) (n a : ℕ) (f : Frame) (e : Ending) (p x : ℕ) (g : Frame) → Ends code n a f p e → g ≡ after code n f p → x ≡ differences n f g
     → PassRule code n a f (carried code n e p x g)
 rule code n a f e p x g h eg ex =
     let r = ap (λ y. left e (badRows code n y)) eg in
     let c = ap (λ y. left e (badColumns code n y)) eg in
-    record { ends = h; last-is = eg; flips-are = ex; rows-are = r; columns-are = c }
+    record { ends = h; last-is = eg; bits-are = ex ∙ ap (differences n f) eg; rows-are = r; columns-are = c }
 
 module _ (code : Code) (n a : ℕ) (f : Frame) (some : 1 ≤ a) (not-frame : isFrame code n f ≡ false) where
   -- no pass before pass p ended them
@@ -131,8 +131,8 @@ module _ (code : Code) (n a : ℕ) (f : Frame) (some : 1 ≤ a) (not-frame : isF
       go (yes h) = quiet q s h
       go (no h) = let e : q ≡ p = omega (arith, h) in rw e (w, i)
 
-  -- one pass more, behind m of them with x flips and the frame g
-  module _ (m x : ℕ) (g : Frame) (eg : g ≡ after code n f m) (ex : x ≡ total m (changedBits code n f)) (quiet : Quiet (suc m)) where
+  -- one pass more, behind m of them that left the frame g
+  module _ (m : ℕ) (g : Frame) (eg : g ≡ after code n f m) (quiet : Quiet (suc m)) where
     abbrev h : Frame
     h = pass code n (suc m) g
 
@@ -142,15 +142,12 @@ module _ (code : Code) (n a : ℕ) (f : Frame) (some : 1 ≤ a) (not-frame : isF
     frame-is : h ≡ after code n f (suc m)
     frame-is = ap (pass code n (suc m)) eg ∙ pass-after code n f m
 
-    count-is : counted n f x g h ≡ total (suc m) (changedBits code n f)
-    count-is = ap₂ _+_ ex (ap₂ (differences n) eg frame-is) ∙ sym (total-last m (changedBits code n f))
-
     changed-is : changed ≡ differences n g h
     changed-is = let e : suc m - 1 ≡ m = omega arith in ap (changedBits code n f) e ∙ sym (ap₂ (differences n) eg frame-is)
 
     step :
-        (l : ℕ) → m + suc l ≡ a → (Quiet (suc (suc m)) → PassRule code n a f (passesFrom code n f l (suc m) (counted n f x g h) h))
-        → PassRule code n a f (passesFrom code n f (suc l) m x g)
+        (l : ℕ) → m + suc l ≡ a → (Quiet (suc (suc m)) → PassRule code n a f (passesFrom code n f l (suc m) h))
+        → PassRule code n a f (passesFrom code n f (suc l) m g)
     step l s next =
         go (isFrame code n h) (isStuck (suc m) (differences n g h)) (ap (isFrame code n) (sym frame-is)) refl (ap (isStuck (suc m)) changed-is) refl
       where
@@ -159,38 +156,34 @@ module _ (code : Code) (n a : ℕ) (f : Frame) (some : 1 ≤ a) (not-frame : isF
 
         go :
             (b c : Bool) → isFrame code n (after code n f (suc m)) ≡ b → isFrame code n h ≡ b → isStuck (suc m) changed ≡ c
-            → isStuck (suc m) (differences n g h) ≡ c → PassRule code n a f (passesFrom code n f (suc l) m x g)
+            → isStuck (suc m) (differences n g h) ≡ c → PassRule code n a f (passesFrom code n f (suc l) m g)
         go true c w w′ t t′ =
-            rw (step-repaired code n f l m x g w′) (rule code n a f repaired (suc m) (counted n f x g h) h (running, w) frame-is count-is)
+            rw (step-repaired code n f l m g w′) (rule code n a f repaired (suc m) (counted n f h) h (running, w) frame-is refl)
         go false true w w′ t t′ =
-            rw (step-stuck code n f l m x g w′ t′)
-            (rule code n a f stuck (suc m) (counted n f x g h) h (running, no-true .1 w, stuck-is (suc m) changed t) frame-is count-is)
+            rw (step-stuck code n f l m g w′ t′)
+            (rule code n a f stuck (suc m) (counted n f h) h (running, no-true .1 w, stuck-is (suc m) changed t) frame-is refl)
         go false false w w′ t t′ =
-            rw (step-on code n f l m x g w′ t′)
+            rw (step-on code n f l m g w′ t′)
             (next (one-more (suc m) quiet (no-true .1 w) (λ i. no-true .1 t (is-stuck (suc m) changed i))))
 
   -- the passes behind the first m, of which l are left
-  runs :
-      (l m x : ℕ) (g : Frame) → m + l ≡ a → g ≡ after code n f m → x ≡ total m (changedBits code n f) → Quiet (suc m)
-      → PassRule code n a f (passesFrom code n f l m x g)
-  runs zero m x g s eg ex quiet =
+  runs : (l m : ℕ) (g : Frame) → m + l ≡ a → g ≡ after code n f m → Quiet (suc m) → PassRule code n a f (passesFrom code n f l m g)
+  runs zero m g s eg quiet =
       let here = quiet m (omega arith) (omega arith) in
       let running : Running code n a f m =
       record { not-frame = not-frame; some = omega arith; allowed = omega arith; before = λ q s l. quiet q s (omega arith) } in
-      rw (step-spent code n f m x g) (rule code n a f spent m x g (running, here .0, here .1, omega arith) eg ex)
-  runs (suc l) m x g s eg ex quiet =
-      step m x g eg ex quiet l s
-      (runs l (suc m) (counted n f x g (pass code n (suc m) g)) (pass code n (suc m) g) (omega arith) (frame-is m x g eg ex quiet)
-      (count-is m x g eg ex quiet))
+      rw (step-spent code n f m g) (rule code n a f spent m (counted n f g) g (running, here .0, here .1, omega arith) eg refl)
+  runs (suc l) m g s eg quiet =
+      step m g eg quiet l s (runs l (suc m) (pass code n (suc m) g) (omega arith) (frame-is m g eg quiet))
 
 holds-of : (code : Code) (n a : ℕ) (f : Frame) → 1 ≤ a → PassRule code n a f (decoded code n a f)
 holds-of code n a f some = start (isFrame code n f) refl
   where
     start : (b : Bool) → isFrame code n f ≡ b → PassRule code n a f (decoded code n a f)
-    start true w = rw (decoded-clean code n a f w) (rule code n a f clean 0 0 f (refl, w) (after-none code n f) (sym (total-none (changedBits code n f))))
+    start true w = rw (decoded-clean code n a f w) (rule code n a f clean 0 0 f (refl, w) (after-none code n f) (sym (differences-self n f)))
     start false w =
         rw (decoded-passes code n a f w)
-        (runs code n a f some w a 0 0 f (omega arith) (after-none code n f) (sym (total-none (changedBits code n f))) (λ q s l. absurd (omega arith)))
+        (runs code n a f some w a 0 f (omega arith) (after-none code n f) (λ q s l. absurd (omega arith)))
 
 -- ---- Nothing else does
 
@@ -228,12 +221,12 @@ module _ (code : Code) (n a : ℕ) (f : Frame) where
   at-most p q e spent g h = omega (arith, no-more p e g q (h .0))
 
   abbrev told : Ending → ℕ → Outcome
-  told e p = carried code n e p (total p (changedBits code n f)) (after code n f p)
+  told e p = carried code n e p (differences n f (after code n f p)) (after code n f p)
 
   told-is : (o : Outcome) → PassRule code n a f o → o ≡ told (o .ending) (o .passes)
   told-is o r =
-      let record { ends = _; last-is = g; flips-are = x; rows-are = b; columns-are = c } = r in
-      λ i. record { ending = o .ending; passes = o .passes; flips = x i; rows = b i; columns = c i; last = g i }
+      let record { ends = _; last-is = g; bits-are = x; rows-are = b; columns-are = c } = r in
+      λ i. record { ending = o .ending; passes = o .passes; bits = x i; rows = b i; columns = c i; last = g i }
 
   one-outcome : (o o′ : Outcome) → PassRule code n a f o → PassRule code n a f o′ → o ≡ o′
   one-outcome o o′ r r′ =

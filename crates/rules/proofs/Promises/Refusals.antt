@@ -136,12 +136,12 @@ plain refusals low r accepted input output hr hl =
 
 -- ---- decoding
 
-ending-in : (e : Ending) (p f r c : ℕ) → OneOf (number (ended e p f r c)) (0 ∷ 7 ∷ 8 ∷ [])
+ending-in : (e : Ending) (p b r c : ℕ) → OneOf (number (ended e p b r c)) (0 ∷ 7 ∷ 8 ∷ [])
 unfolding isIn
-ending-in clean p f r c = refl
-ending-in repaired p f r c = refl
-ending-in stuck p f r c = refl
-ending-in spent p f r c = refl
+ending-in clean p b r c = refl
+ending-in repaired p b r c = refl
+ending-in stuck p b r c = refl
+ending-in spent p b r c = refl
 
 -- a function of what was picked
 pick-ap {ℓ} : {A : Type ℓ} (f : A → ℕ) (b : Bool) (x y : A) → f (pick b x y) ≡ pick b (f x) (f y)
@@ -158,7 +158,7 @@ decode-table code n allowance input output =
     let o : Outcome = decoded code n allowance (frameOf n input) in
     table (1 ∷ 2 ∷ 3 ∷ 4 ∷ []) (7 ∷ 8 ∷ []) refl refl r (number (told o)) (number (decodeSaid code n allowance input output))
     (handedOut n input o) (bytesOf n (o .last)) input output (pick-ap number (eqb r 0) (told o) (refused r))
-    (first-in (decodeRefusals code n allowance input output)) (ending-in (o .ending) (o .passes) (o .flips) (o .rows) (o .columns))
+    (first-in (decodeRefusals code n allowance input output)) (ending-in (o .ending) (o .passes) (o .bits) (o .rows) (o .columns))
     (λ z. handed n input o)
     (λ z.
     let f = decode-accepts code n allowance input output .0 z .0 in

@@ -26,6 +26,7 @@ use Rattle.rules.specs.Numbers.{
   decodeOutput,
   ended,
   number,
+  Figures,
   figuresOf,
 }
 use Rattle.rules.specs.Damage.{spoilt}
@@ -56,11 +57,12 @@ SpoiledAt code rows n written received =
 abbrev pub Spoiled : Code → ℕ → List ℕ → List ℕ → Type 0
 Spoiled code = SpoiledAt code (radius code)
 
--- number 0, the written bytes, and two passes at the most
+-- number 0, the written bytes, two passes at the most, and the count is the number of wrong bits
 pub record Back (code : Code) (n allowance : ℕ) (written received output : List ℕ) : Type 0 where
   pub zero : number (decodeSaid code n allowance received output) ≡ 0
   pub bytes : decodeOutput code n allowance received output ≡ written
   pub few : figuresOf (decodeSaid code n allowance received output) .passes ≤ 2
+  pub bits : figuresOf (decodeSaid code n allowance received output) .bits ≡ differences n (frameOf n written) (frameOf n received)
 
 -- all code bits are the same
 abbrev pub Agree : ℕ → List ℕ → List ℕ → Type 0
@@ -96,17 +98,21 @@ pub record RepairPromise (code : Code) : Type 0 where
 -- ---- The proof
 
 success-zero : (o : Outcome) → (o .ending ≡ clean) ⊎ (o .ending ≡ repaired) → number (told o) ≡ 0
-success-zero o (inl q) = ap (λ e. number (ended e (o .passes) (o .flips) (o .rows) (o .columns))) q
-success-zero o (inr q) = ap (λ e. number (ended e (o .passes) (o .flips) (o .rows) (o .columns))) q
+success-zero o (inl q) = ap (λ e. number (ended e (o .passes) (o .bits) (o .rows) (o .columns))) q
+success-zero o (inr q) = ap (λ e. number (ended e (o .passes) (o .bits) (o .rows) (o .columns))) q
 
-passes-told : (o : Outcome) → figuresOf (told o) .passes ≡ o .passes
-passes-told o = go (o .ending)
+-- passes and bits stand for every ending
+told-both : (o : Outcome) → (figuresOf (told o) .passes ≡ o .passes) × (figuresOf (told o) .bits ≡ o .bits)
+told-both o = go (o .ending)
   where
-    go : (e : Ending) → figuresOf (ended e (o .passes) (o .flips) (o .rows) (o .columns)) .passes ≡ o .passes
-    go clean = refl
-    go repaired = refl
-    go stuck = refl
-    go spent = refl
+    figures : Ending → Figures
+    figures e = figuresOf (ended e (o .passes) (o .bits) (o .rows) (o .columns))
+
+    go : (e : Ending) → (figures e .passes ≡ o .passes) × (figures e .bits ≡ o .bits)
+    go clean = (refl, refl)
+    go repaired = (refl, refl)
+    go stuck = (refl, refl)
+    go spent = (refl, refl)
 
 module _ (code : Code) (ok : Sound code) (n : ℕ) (written : List ℕ) (w : Written code n written) where
   the-frame : Frame
@@ -147,7 +153,7 @@ back-here code able n a written received output w s lo hi lent =
     let z : r ≡ 0 =
     decode-accepts code n a received output .1
     (record { from = k .from; upTo = k .upTo; taken = s .0; lent = lent }, (omega arith, hi)) in
-    let b : Restored f o =
+    let b : Restored n f (frameOf n received) o =
     repairs-frames code able n a (k .from) (k .upTo) lo f (frameOf n received) (square code (able .sound) n written w) (frameOf-square n received)
     (whole code (able .sound) n written w) (in-class code (able .sound) n written w received s) in
     let e : number (told o) ≡ 0 = success-zero o (b .success) in
@@ -155,7 +161,9 @@ back-here code able n a written received output w s lo hi lent =
     record {
       zero = ap number said ∙ e;
       bytes = at-zero r (handedOut n received o) output z ∙ handed n received o ∙ at-zero (number (told o)) (bytesOf n (o .last)) received e ∙ ap (bytesOf n) (b .frame) ∙ sym (is-bytes code (able .sound) n written w);
-      few = rw (ap (λ d. figuresOf d .passes) said ∙ passes-told o) (b .few);
+      few = rw (ap (λ d. figuresOf d .passes) said ∙ told-both o .0) (b .few);
+      bits = ap (λ d. figuresOf d .bits) said ∙ told-both o .1 ∙ b .bits
+          ∙ ap (λ x. differences n x (frameOf n received)) (sym (is-the-frame code (able .sound) n written w));
     }
 
 apart-here :

@@ -10,28 +10,31 @@ use Rattle.algebra.specs.Words.{Word, differ}
 use Rattle.rules.specs.Codes.{Code, radius}
 use Rattle.rules.specs.Words.{isCodeword, mend}
 use Rattle.rules.specs.Frames.{Frame, Square, transposed, isFrame}
-use Rattle.rules.specs.Passes.{passRows, passColumns, pass, counted, clean, repaired, Outcome, passesFrom, decoded}
+use Rattle.rules.specs.Passes.{passRows, passColumns, pass, differences, counted, clean, repaired, Outcome, passesFrom, decoded}
 use Rattle.rules.specs.Damage.{spoilt}
 use Rattle.rules.proofs.Laws.CodeLaws.{Mends}
 use Rattle.rules.proofs.Laws.Shape.{transposed-square, transposed-twice}
 use Rattle.rules.proofs.Laws.FrameLaws.{frame-rows, frame-columns}
 use Rattle.rules.proofs.Promises.Answers.{answers}
 use Rattle.rules.proofs.Laws.PassLaws.{decoded-clean, decoded-passes, step-repaired, step-on, pass-one, pass-two, passRows-square}
+use Rattle.rules.proofs.Laws.DifferenceLaws.{differences-self, differences-comm}
 use Rattle.rules.proofs.Laws.TwoPasses.{rowsMended, rows-left, two-passes}
 
 -- ---- The statement
 
--- a success, with this frame, in at most two passes
-pub record Restored (f : Frame) (o : Outcome) : Type 0 where
+-- a success, with the written frame, in at most two passes, and the count is the number of wrong bits
+pub record Restored (n : ℕ) (written received : Frame) (o : Outcome) : Type 0 where
   pub success : (o .ending ≡ clean) ⊎ (o .ending ≡ repaired)
-  pub frame : o .last ≡ f
+  pub frame : o .last ≡ written
   pub few : o .passes ≤ 2
+  pub bits : o .bits ≡ differences n written received
 
 -- any written frame with at most `rows` spoiled rows comes back, whatever the allowance from two on
 abbrev pub RepairsFramesAt : Code → ℕ → Type 0
 RepairsFramesAt code rows =
     (n allowance : ℕ) → code .shortest ≤ n → n ≤ code .longest → 2 ≤ allowance → (written received : Frame) → Square n written → Square n received
-    → isFrame code n written ≡ true → spoilt (radius code) n written received ≤ rows → Restored written (decoded code n allowance received)
+    → isFrame code n written ≡ true → spoilt (radius code) n written received ≤ rows
+    → Restored n written received (decoded code n allowance received)
 
 -- as many spoiled rows as the radius
 abbrev pub RepairsFrames : Code → Type 0
@@ -75,28 +78,34 @@ module _ (code : Code) (able : Mends code) (n : ℕ) (h : code .shortest ≤ n) 
     passed-whole : isFrame code n (passRows code n r) ≡ true → passRows code n r ≡ f
     passed-whole q = sym (frame-left (passRows code n r) (passRows-square code n r sr) q .1) ∙ both
 
-    restored : (a : ℕ) → Restored f (decoded code n (suc (suc a)) r)
+    count-is : (last : Frame) → last ≡ f → counted n r last ≡ differences n f r
+    count-is last e = ap (differences n r) e ∙ differences-comm n r f
+
+    restored : (a : ℕ) → Restored n f r (decoded code n (suc (suc a)) r)
     restored a = start (isFrame code n r) refl
       where
-        at-two : (changes : ℕ) → Restored f (passesFrom code n r (suc a) 1 changes (passRows code n r))
-        at-two changes =
-            let e : pass code n 2 (passRows code n r) ≡ f = pass-two code n (passRows code n r) ∙ both in
-            rw (step-repaired code n r a 1 changes (passRows code n r) (ap (isFrame code n) e ∙ k))
-            (record { success = inr refl; frame = e; few = omega arith })
+        at-two : Restored n f r (passesFrom code n r (suc a) 1 (passRows code n r))
+        at-two =
+            let h : Frame = pass code n 2 (passRows code n r) in
+            let e : h ≡ f = pass-two code n (passRows code n r) ∙ both in
+            rw (step-repaired code n r a 1 (passRows code n r) (ap (isFrame code n) e ∙ k))
+            (record { success = inr refl; frame = e; few = omega arith; bits = count-is h e })
 
-        at-one : (x : Bool) → isFrame code n (pass code n 1 r) ≡ x → Restored f (passesFrom code n r (suc (suc a)) 0 0 r)
+        at-one : (x : Bool) → isFrame code n (pass code n 1 r) ≡ x → Restored n f r (passesFrom code n r (suc (suc a)) 0 r)
         at-one true q =
-            rw (step-repaired code n r (suc a) 0 0 r q)
-            (record { success = inr refl; frame = pass-one code n r ∙ passed-whole (rw (pass-one code) at q); few = omega arith })
+            let h : Frame = pass code n 1 r in
+            let e : h ≡ f = pass-one code n r ∙ passed-whole (rw (pass-one code) at q) in
+            rw (step-repaired code n r (suc a) 0 r q)
+            (record { success = inr refl; frame = e; few = omega arith; bits = count-is h e })
         at-one false q =
-            rw (step-on code n r (suc a) 0 0 r q refl)
-            (subst (λ x. Restored f (passesFrom code n r (suc a) 1 (counted n r 0 r x) x)) (sym (pass-one code n r))
-            (at-two (counted n r 0 r (passRows code n r))))
+            rw (step-on code n r (suc a) 0 r q refl)
+            (subst (λ x. Restored n f r (passesFrom code n r (suc a) 1 x)) (sym (pass-one code n r)) at-two)
 
-        start : (x : Bool) → isFrame code n r ≡ x → Restored f (decoded code n (suc (suc a)) r)
+        start : (x : Bool) → isFrame code n r ≡ x → Restored n f r (decoded code n (suc (suc a)) r)
         start true q =
+            let e : r ≡ f = received-whole q in
             rw (decoded-clean code n (suc (suc a)) r q)
-            (record { success = inl refl; frame = received-whole q; few = omega arith })
+            (record { success = inl refl; frame = e; few = omega arith; bits = sym (differences-self n r) ∙ count-is r e })
         start false q = rw (decoded-passes code n (suc (suc a)) r q) (at-one (isFrame code n (pass code n 1 r)) refl)
 
 pub repairs-frames : (code : Code) (able : Mends code) → RepairsFrames code

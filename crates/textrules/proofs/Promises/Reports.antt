@@ -67,17 +67,17 @@ joinedTexts (t ∷ ts) = t ++ joinedTexts ts
 -- a record's line, from what decoding said
 abbrev pub recordSays : ℕ → Decoded → Text
 recordSays number (refused r) = decimal number ++ ascii "\trefused\t" ++ decimal r ++ ascii "\t0\t0\t0\n"
-recordSays number (ended clean p f r c) = decimal number ++ ascii "\tclean\t" ++ decimal p ++ ascii "\t" ++ decimal f ++ ascii "\t0\t0\n"
-recordSays number (ended repaired p f r c) = decimal number ++ ascii "\trepaired\t" ++ decimal p ++ ascii "\t" ++ decimal f ++ ascii "\t0\t0\n"
-recordSays number (ended stuck p f r c) =
-    decimal number ++ ascii "\tstuck\t" ++ decimal p ++ ascii "\t" ++ decimal f ++ ascii "\t" ++ decimal r ++ ascii "\t" ++ decimal c ++ ascii "\n"
-recordSays number (ended spent p f r c) =
-    decimal number ++ ascii "\tspent\t" ++ decimal p ++ ascii "\t" ++ decimal f ++ ascii "\t" ++ decimal r ++ ascii "\t" ++ decimal c ++ ascii "\n"
+recordSays number (ended clean p b r c) = decimal number ++ ascii "\tclean\t" ++ decimal p ++ ascii "\t" ++ decimal b ++ ascii "\t0\t0\n"
+recordSays number (ended repaired p b r c) = decimal number ++ ascii "\trepaired\t" ++ decimal p ++ ascii "\t" ++ decimal b ++ ascii "\t0\t0\n"
+recordSays number (ended stuck p b r c) =
+    decimal number ++ ascii "\tstuck\t" ++ decimal p ++ ascii "\t" ++ decimal b ++ ascii "\t" ++ decimal r ++ ascii "\t" ++ decimal c ++ ascii "\n"
+recordSays number (ended spent p b r c) =
+    decimal number ++ ascii "\tspent\t" ++ decimal p ++ ascii "\t" ++ decimal b ++ ascii "\t" ++ decimal r ++ ascii "\t" ++ decimal c ++ ascii "\n"
 
 -- number 3 does not come: the buffer lent is as long as the frame
 abbrev pub RefusedBy : Decoded → Type 0
 RefusedBy (refused r) = (r ≡ 1) ⊎ ((r ≡ 2) ⊎ (r ≡ 4))
-RefusedBy (ended e p f r c) = Unit {0}
+RefusedBy (ended e p b r c) = Unit {0}
 
 -- what is promised of the report
 pub record Reports : Type 0 where
@@ -182,10 +182,10 @@ lines-numbered input later e =
 says : (number : ℕ) (d : Decoded) → recordText number d ≡ recordSays number d
 unfolding digits
 says number (refused r) = simp append-assoc
-says number (ended clean p f r c) = simp append-assoc
-says number (ended repaired p f r c) = simp append-assoc
-says number (ended stuck p f r c) = simp append-assoc
-says number (ended spent p f r c) = simp append-assoc
+says number (ended clean p b r c) = simp append-assoc
+says number (ended repaired p b r c) = simp append-assoc
+says number (ended stuck p b r c) = simp append-assoc
+says number (ended spent p b r c) = simp append-assoc
 
 refused-by : (n allowance : ℕ) (frame : List ℕ) → RefusedBy (decodeSaid smallCode n allowance frame frame)
 unfolding decodeSaid decodeRefusal
@@ -235,10 +235,10 @@ quoted-no-lf t h =
 ending-no-lf : (d : Decoded) → NoLF (endingText d)
 unfolding every
 ending-no-lf (refused r) = quoted-no-lf (ascii "refused") refl
-ending-no-lf (ended clean p f r c) = quoted-no-lf (ascii "clean") refl
-ending-no-lf (ended repaired p f r c) = quoted-no-lf (ascii "repaired") refl
-ending-no-lf (ended stuck p f r c) = quoted-no-lf (ascii "stuck") refl
-ending-no-lf (ended spent p f r c) = quoted-no-lf (ascii "spent") refl
+ending-no-lf (ended clean p b r c) = quoted-no-lf (ascii "clean") refl
+ending-no-lf (ended repaired p b r c) = quoted-no-lf (ascii "repaired") refl
+ending-no-lf (ended stuck p b r c) = quoted-no-lf (ascii "stuck") refl
+ending-no-lf (ended spent p b r c) = quoted-no-lf (ascii "spent") refl
 
 line-one-lf : (k : ℕ) (l : Line) → (t : Text) × NoLF t × (lineText k l ≡ t ++ ascii "\n")
 unfolding every

@@ -14,7 +14,7 @@ use Rattle.rules.proofs.Laws.NumberLaws.{Sized}
 use Rattle.rules.proofs.Laws.SmallCode.{sound-small}
 use Rattle.laws.proofs.RefusalLaws.{not-longer, sized}
 use Rattle.laws.proofs.CornerLaws.{cornered-square, ready}
-use Rattle.laws.proofs.DecodeLaws.{refused-1, refused-2, refused-3, refused-4, Accepted, accept, as-long, copied-over}
+use Rattle.laws.proofs.DecodeLaws.{refused-1, refused-2, refused-3, refused-4, Accepted, accept, copied-frame, as-long, copied-over}
 use Rattle.frame.proofs.ReportLaws.{refusal-said, failed, succeeded}
 use Rattle.frame.proofs.decode.decode.Statement.{statement}
 use Rattle.frame.proofs.decode.decode.Tie as tie
@@ -85,7 +85,9 @@ copy-corner-requires c κs =
 repair-requires : tie.Need-repair-requires
 repair-requires c κs =
     let ok = all-passed (c .before .before .before .before .before) in
-    (ready smallCode _ _ _ (ok .sized .from) (ok .sized .upTo) (cornered-square _ _ _) (c .before .before .before .copy-corner .ensures), ok .some, ok .most)
+    let e = c .before .before .before .copy-corner .ensures in
+    let k = ready smallCode _ _ _ (ok .sized .from) (ok .sized .upTo) (cornered-square _ _ _) e in
+    ((k, ok .sized .taken, copied-frame _ _ _ e), ok .some, ok .most)
 
 is-failure-requires : tie.Need-is-failure-requires
 is-failure-requires c κs = search needs
@@ -103,9 +105,8 @@ returns-5 : tie.Need-returns-5
 returns-5 c =
     let d = c .before .before .before .before in
     let r = d .before .before .before .before .repair .ensures in
-    let copied = d .before .before .before .before .before .before .before .before .copy-corner .ensures in
     let ok = all-passed (d .before .before .before .before .before .before .before .before .before .before) in
-    failed _ _ _ _ _ ok copied _ (r .0) _ (d .before .is-failure .ensures) _ (d .if5 .taken)
+    failed _ _ _ _ ok _ (r .0) _ (d .before .is-failure .ensures) _ (d .if5 .taken)
     (copied-over _ _ _ _ (ok .sized .taken) (r .1) _ (c .before .before .copy .ensures .1))
 
 same-length-2 : tie.Need-same-length-2
@@ -114,9 +115,8 @@ same-length-2 c = search needs
 returns-6 : tie.Need-returns-6
 returns-6 c =
     let r = c .before .before .before .before .repair .ensures in
-    let copied = c .before .before .before .before .before .before .before .before .copy-corner .ensures in
     let ok = all-passed (c .before .before .before .before .before .before .before .before .before .before) in
-    succeeded _ _ _ _ _ ok copied _ (r .0) _ (c .before .is-failure .ensures) _ (c .if5 .left) (r .1)
+    succeeded _ _ _ _ ok _ (r .0) _ (c .before .is-failure .ensures) _ (c .if5 .left) (r .1)
 
 pub decode-spec : {M : Type 1} → statement M
 decode-spec =

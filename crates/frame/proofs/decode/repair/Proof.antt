@@ -2,12 +2,12 @@
 -- words of this pass are mended.
 -- Assumes nothing.
 use mathlib.Core.Path.{_≡_, refl, sym, _∙_}
+use mathlib.Core.Logic.{⊎-elim}
 use Prim.Native.Nat.{_-_}
 use lib.ListN.{length}
 use borrow.Author.Needs.{needs}
 use Rattle.rules.specs.Codes.{smallCode}
 use Rattle.rules.specs.Bits.{frameOf}
-use Rattle.rules.proofs.Laws.SmallCode.{sound-small}
 use Rattle.rules.proofs.Laws.Shape.{frameOf-square}
 use Rattle.laws.specs.Turns.{Whole}
 use Rattle.laws.proofs.PassStepLaws.{
@@ -31,23 +31,23 @@ use Rattle.frame.proofs.decode.repair.Statement.{statement}
 use Rattle.frame.proofs.decode.repair.Tie as tie
 
 abbrev Inv-loop2 : tie.InvT-loop2
-Inv-loop2 n allowance s₀ rows columns passes flips by-columns changes₀ k₀ s changes k =
+Inv-loop2 n allowance received s₀ rows columns passes by-columns changes₀ k₀ s changes k =
     Passing smallCode n (frameOf n s₀) by-columns s changes k
 
 abbrev μ-loop2 : tie.MeasureT-loop2
-μ-loop2 n allowance s₀ rows columns passes flips by-columns changes₀ k₀ s changes k = n - k
+μ-loop2 n allowance received s₀ rows columns passes by-columns changes₀ k₀ s changes k = n - k
 
 abbrev Inv-loop : tie.InvT-loop
-Inv-loop n allowance s₀ rows₀ columns₀ passes₀ flips₀ s rows columns passes flips =
-    Repairing smallCode n allowance (frameOf n s₀) s passes flips
+Inv-loop n allowance received s₀ rows₀ columns₀ passes₀ s rows columns passes =
+    Repairing smallCode n allowance (frameOf n received) s passes
 
 abbrev μ-loop : tie.MeasureT-loop
-μ-loop n allowance s₀ rows₀ columns₀ passes₀ flips₀ s rows columns passes flips = allowance - passes
+μ-loop n allowance received s₀ rows₀ columns₀ passes₀ s rows columns passes = allowance - passes
 
 -- ---- what is known on the way
 
 abbrev entry : tie.At-loop2 Inv-loop2 μ-loop2 Inv-loop μ-loop → tie.Start Inv-loop2 μ-loop2 Inv-loop μ-loop
-entry c = c .before .before .before .before .before .before .before .before
+entry c = c .before .before .before .before .before .before .before .before .before
 
 -- in the midst of a pass
 whole : (c : tie.At-loop2 Inv-loop2 μ-loop2 Inv-loop μ-loop) → Whole smallCode (entry c .args .n) (c .loop2 .s)
@@ -58,7 +58,7 @@ abbrev pass-end : tie.After-bad4 Inv-loop2 μ-loop2 Inv-loop μ-loop → tie.Aft
 pass-end c = c .before .before .before .before
 
 kept : (c : tie.After-bad4 Inv-loop2 μ-loop2 Inv-loop μ-loop) → let p = pass-end c .before in length (p .loop2 .s) ≡ length (entry p .args .s .now)
-kept c = let p = pass-end c .before in whole p .2 ∙ sym (entry p .pre .0 .0 .2)
+kept c = let p = pass-end c .before in whole p .2 ∙ sym (entry p .pre .0 .0 .0 .2)
 
 -- an `abbrev`, so that each need sees the direction the code took, and shows by `refl` that it is the rule's
 abbrev made :
@@ -66,7 +66,7 @@ abbrev made :
     → let p = pass-end c .before in
     let l = p .before .loop in
     let a = entry p .args in
-    Made smallCode (a .n) (a .allowance) (frameOf (a .n) (a .s .now)) (l .s) (l .passes) (l .flips) (p .loop2 .s) (p .loop2 .changes)
+    Made smallCode (a .n) (a .allowance) (frameOf (a .n) (a .received .now)) (l .s) (l .passes) (p .loop2 .s) (p .loop2 .changes)
     (c .before .before .bad3 .result) (c .bad4 .result)
 made c = let e = pass-end c in record {
   before = e .before .before .loop .inv;
@@ -96,15 +96,18 @@ same-length c = search needs
 returns : tie.Need-returns Inv-loop2 μ-loop2 Inv-loop μ-loop
 returns c =
     let b = c .before .before in
-    let q = b .before .before .before .before .before in
-    let d = reported (ended-clean smallCode _ _ (q .args .s .now) _ _ (q .pre .0) (b .before .before .bad .ensures .0) (b .bad2 .ensures .0) (c .before .if1 .taken)) in
+    let q = b .before .before .before .before .before .before in
+    let k = q .pre .0 in
+    let d =
+    reported refl (ended-clean smallCode _ _ _ (q .args .s .now) _ _ (k .0) (k .2) (b .before .before .bad .ensures .0) (b .bad2 .ensures .0) (c .before .if1 .taken)) in
     (c .clean .ensures ∙ d .0, d .1)
 
 loop-holds : tie.Need-loop-holds Inv-loop2 μ-loop2 Inv-loop μ-loop
 loop-holds c =
     let b = c .before in
-    let q = b .before .before .before .before .before in
-    repairing-none smallCode _ _ _ (q .pre .0) (q .pre .1) (frame-not smallCode _ _ _ _ (b .before .before .bad .ensures .0) (b .bad2 .ensures .0) (c .if1 .left))
+    let q = b .before .before .before .before .before .before in
+    let k = q .pre .0 in
+    repairing-none smallCode _ _ _ _ (k .0) (k .2) (q .pre .1) (frame-not smallCode _ _ _ _ (b .before .before .bad .ensures .0) (b .bad2 .ensures .0) (c .if1 .left))
 
 loop2-holds : tie.Need-loop2-holds Inv-loop2 μ-loop2 Inv-loop μ-loop
 loop2-holds c = passing-none smallCode _ _ _ (c .loop .inv .ready)
@@ -130,9 +133,6 @@ loop2-again c =
 add-passes : tie.Need-add-passes Inv-loop2 μ-loop2 Inv-loop μ-loop
 add-passes c = search needs
 
-add-flips : tie.Need-add-flips Inv-loop2 μ-loop2 Inv-loop μ-loop
-add-flips c = search needs
-
 bad-requires-3 : tie.Need-bad-requires-3 Inv-loop2 μ-loop2 Inv-loop μ-loop
 bad-requires-3 c κs = whole (c .before .before)
 
@@ -151,30 +151,25 @@ loop-less c = search needs
 loop-again : tie.Need-loop-again Inv-loop2 μ-loop2 Inv-loop μ-loop
 loop-again c =
     let d = c .before .before in
-    repairing-more smallCode sound-small (made (d .before .before)) refl (d .before .if2 .left) (sym (d .is-stuck .ensures) ∙ c .before .if3 .left) (c .if4 .left)
+    repairing-more smallCode (made (d .before .before)) refl (d .before .if2 .left) (sym (d .is-stuck .ensures) ∙ c .before .if3 .left) (c .if4 .left)
+
+differences-requires : tie.Need-differences-requires Inv-loop2 μ-loop2 Inv-loop μ-loop
+differences-requires c κs =
+    let p = pass-end (c .before .before) .before in
+    (search needs, search needs, entry p .pre .0 .1, whole p .2)
 
 same-length-2 : tie.Need-same-length-2 Inv-loop2 μ-loop2 Inv-loop μ-loop
-same-length-2 c = kept (c .before)
+same-length-2 c = kept (c .before .before .before)
 
 returns-2 : tie.Need-returns-2 Inv-loop2 μ-loop2 Inv-loop μ-loop
-returns-2 c = reported (ended-repaired smallCode sound-small (made (c .before)) refl (c .if2 .taken))
-
-same-length-3 : tie.Need-same-length-3 Inv-loop2 μ-loop2 Inv-loop μ-loop
-same-length-3 c = kept (c .before .before .before)
-
-returns-3 : tie.Need-returns-3 Inv-loop2 μ-loop2 Inv-loop μ-loop
-returns-3 c =
-    let d = c .before in
-    reported (ended-stuck smallCode sound-small (made (d .before .before)) refl (d .before .if2 .left) (sym (d .is-stuck .ensures) ∙ c .if3 .taken))
-
-same-length-4 : tie.Need-same-length-4 Inv-loop2 μ-loop2 Inv-loop μ-loop
-same-length-4 c = kept (c .before .before .before .before)
-
-returns-4 : tie.Need-returns-4 Inv-loop2 μ-loop2 Inv-loop μ-loop
-returns-4 c =
-    let d = c .before .before in
-    reported
-    (ended-spent smallCode sound-small (made (d .before .before)) refl (d .before .if2 .left) (sym (d .is-stuck .ensures) ∙ c .before .if3 .left) (c .if4 .taken))
+returns-2 c =
+    let m = made (c .before .before .before) in
+    let bits = c .differences .ensures in
+    ⊎-elim (λ w. reported (w .1) (ended-repaired smallCode m refl _ bits (w .0 .taken)))
+    (⊎-elim
+    (λ w. reported (w .3) (ended-stuck smallCode m refl _ bits (w .0 .left) (sym (w .1 .ensures) ∙ w .2 .taken)))
+    (λ w. reported (w .4) (ended-spent smallCode m refl _ bits (w .0 .left) (sym (w .1 .ensures) ∙ w .2 .left) (w .3 .taken))))
+    (c .before .before .if2 .came)
 
 pub repair-spec : {M : Type 1} → statement M
 repair-spec =
@@ -198,16 +193,12 @@ repair-spec =
     loop2-less
     loop2-again
     add-passes
-    add-flips
     bad-requires-3
     bad-requires-4
     add-if2
     is-stuck-requires
     loop-less
     loop-again
+    differences-requires
     same-length-2
-    returns-2
-    same-length-3
-    returns-3
-    same-length-4
-    returns-4)
+    returns-2)
