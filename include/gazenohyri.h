@@ -8,7 +8,8 @@
  *  - Each function answers any bytes, lengths, n and allowance. What it can't take it refuses by number, and then no byte of
  *    the output changes.
  *  - A written frame, spoiled so that at most two of its rows have three or more wrong bits, comes back exactly, in at most two
- *    passes, at any allowance from 2 to 32. So do any eight wrong bits, any two rows lost whole, and any two columns.
+ *    passes, at any allowance from 2 to 32. So do any eight wrong bits, any two rows lost whole, and any two columns. The bits
+ *    that the answer counts are then the wrong ones, all of them and no other.
  *
  * Where the promise ends: past that class a repair can be WRONG. Sixteen wrong bits, in four rows and four columns of a frame
  * of 31, are 'repaired' in two passes to a frame that was never written, with number 0. Nothing in the answer tells such a
@@ -105,8 +106,9 @@ static inline uint32_t gazenohyri_passes(uint64_t answer)
     return (uint32_t)(answer >> 8 & 0xFF);
 }
 
-/* The bits flipped, summed over all passes: a bit that is flipped and flipped back counts twice. 0 where refused. */
-static inline uint32_t gazenohyri_flips(uint64_t answer)
+/* The code bits that the last pass left otherwise than they were received; a bit that is flipped and flipped back is none of them.
+ * For 7 and 8 too, though the output is then the received frame. 0 where the frame was clean, and where the number is 1 to 4. */
+static inline uint32_t gazenohyri_bits(uint64_t answer)
 {
     return (uint32_t)(answer >> 16 & 0xFFFF);
 }

@@ -67,8 +67,8 @@ pub enum Ending {
 pub struct Report {
     pub ending: Ending,
     pub passes: usize,
-    /// Bits flipped, summed over all passes.
-    pub flips: usize,
+    /// Bits that are not as they were received.
+    pub bits: usize,
     /// Rows of the last frame that are not codewords.
     pub bad_rows: usize,
     /// Columns of the last frame that are not codewords.

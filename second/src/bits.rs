@@ -49,12 +49,6 @@ impl Word {
         self.0.iter().map(|part| part.count_ones()).sum()
     }
 
-    /// The number of places in which two words differ.
-    pub fn differences(&self, other: &Word) -> usize {
-        let pairs = self.0.iter().zip(&other.0);
-        pairs.map(|(a, b)| (a ^ b).count_ones() as usize).sum()
-    }
-
     /// This word with the places that `answer` names flipped.
     pub fn corrected(mut self, answer: Answer) -> Word {
         match answer {

@@ -137,7 +137,7 @@ fn ended_line(number: usize, report: &Report) -> String {
         number,
         ending_name(report.ending),
         report.passes,
-        report.flips,
+        report.bits,
         report.bad_rows,
         report.bad_columns
     )

@@ -25,7 +25,9 @@ pub fn mend(tables: &Tables, start: Matrix, allowance: usize) -> (Matrix, Report
         return (start, report);
     }
     let mut frame = start;
-    let (mut passes, mut flips) = (0, 0);
+    let (mut passes, mut bits) = (0, 0);
+    // The places that are not as they were received: flipped an odd number of times.
+    let mut odd = Matrix::zero(frame.n());
     let ending = loop {
         passes += 1;
         let after = if passes % 2 == 1 {
@@ -33,20 +35,22 @@ pub fn mend(tables: &Tables, start: Matrix, allowance: usize) -> (Matrix, Report
         } else {
             column_pass(tables, &frame)
         };
-        let changed = frame.differences(&after);
-        flips += changed;
+        let flipped = frame.xor(&after);
+        // A place among the odd ones is flipped back.
+        bits = bits + flipped.ones() - 2 * flipped.and(&odd).ones();
+        odd = odd.xor(&flipped);
         frame = after;
         if is_frame(tables, &frame) {
             break Ending::Repaired;
         }
-        if passes >= 2 && changed == 0 {
+        if passes >= 2 && flipped.ones() == 0 {
             break Ending::Stuck;
         }
         if passes == allowance {
             break Ending::Spent;
         }
     };
-    let report = report(tables, &frame, ending, passes, flips);
+    let report = report(tables, &frame, ending, passes, bits);
     (frame, report)
 }
 
@@ -59,7 +63,7 @@ fn column_pass(tables: &Tables, matrix: &Matrix) -> Matrix {
     row_pass(tables, &matrix.transposed()).transposed()
 }
 
-fn report(tables: &Tables, last: &Matrix, ending: Ending, passes: usize, flips: usize) -> Report {
+fn report(tables: &Tables, last: &Matrix, ending: Ending, passes: usize, bits: usize) -> Report {
     let (bad_rows, bad_columns) = match ending {
         Ending::Clean | Ending::Repaired => (0, 0),
         Ending::Stuck | Ending::Spent => {
@@ -69,7 +73,7 @@ fn report(tables: &Tables, last: &Matrix, ending: Ending, passes: usize, flips: 
     Report {
         ending,
         passes,
-        flips,
+        bits,
         bad_rows,
         bad_columns,
     }

@@ -15,9 +15,9 @@
 //! the same array and turns down a pattern with a place it does not have.
 //!
 //! A frame is held as a bit matrix. A pass over the rows maps a whole matrix
-//! to a new one, a pass over the columns does the same to the transposed
-//! matrix, and the flips of a pass are the bits in which the matrices before
-//! and after it differ.
+//! to a new one, and a pass over the columns does the same to the transposed
+//! matrix. A further matrix has a one wherever a bit was flipped an odd number
+//! of times: its ones are the bits that are not as they were received.
 //!
 //! # How this differs from the algebraic way
 //!

@@ -55,10 +55,28 @@ impl Matrix {
         new
     }
 
-    /// The number of bits in which two matrices differ.
-    pub fn differences(&self, other: &Matrix) -> usize {
-        let pairs = self.rows().iter().zip(other.rows());
-        pairs.map(|(a, b)| a.differences(b)).sum()
+    /// The matrix with a one wherever two matrices differ.
+    pub fn xor(&self, other: &Matrix) -> Matrix {
+        self.with(other, |a, b| a ^ b)
+    }
+
+    /// The matrix with a one wherever two matrices both have one.
+    pub fn and(&self, other: &Matrix) -> Matrix {
+        self.with(other, |a, b| a & b)
+    }
+
+    fn with(&self, other: &Matrix, join: impl Fn(u64, u64) -> u64) -> Matrix {
+        let mut new = self.clone();
+        for (to, word) in new.words.iter_mut().zip(other.rows()) {
+            for (part, with) in to.0.iter_mut().zip(word.0) {
+                *part = join(*part, with);
+            }
+        }
+        new
+    }
+
+    pub fn ones(&self) -> usize {
+        self.rows().iter().map(|word| word.ones() as usize).sum()
     }
 
     /// The matrix whose rows are the columns of this one.

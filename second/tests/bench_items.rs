@@ -20,11 +20,11 @@ fn decode_word(n: usize, received: &[u8]) -> (Answer, Vec<u8>) {
     (answer.unwrap(), word)
 }
 
-fn report(ending: Ending, passes: usize, flips: usize, bad: (usize, usize)) -> Report {
+fn report(ending: Ending, passes: usize, bits: usize, bad: (usize, usize)) -> Report {
     Report {
         ending,
         passes,
-        flips,
+        bits,
         bad_rows: bad.0,
         bad_columns: bad.1,
     }
@@ -78,6 +78,16 @@ fn item_d_is_stuck() {
     assert_eq!(decode(18, 32, &received), (stuck, received.clone()));
     assert_eq!(decode(18, 2, &received), (stuck, received));
     assert_eq!(stuck.number(), 7);
+}
+
+#[test]
+fn bits_that_are_flipped_and_flipped_back_are_not_counted() {
+    // Ten of its twelve ones: pass 1 sets the two others, pass 2 clears all twelve.
+    let received = item(&[[0x17, 0xb1, 0xc0]]);
+    let repaired = report(Ending::Repaired, 2, 10, (0, 0));
+    let spent = report(Ending::Spent, 1, 2, (0, 12));
+    assert_eq!(decode(18, 2, &received), (repaired, item(&[])));
+    assert_eq!(decode(18, 1, &received), (spent, received.clone()));
 }
 
 #[test]

@@ -39,14 +39,14 @@ static void fields(void)
         describe("field %d all ones", i);
         EXPECT(gazenohyri_number(all[i]) == (i == 0 ? 0xFFu : 0u));
         EXPECT(gazenohyri_passes(all[i]) == (i == 1 ? 0xFFu : 0u));
-        EXPECT(gazenohyri_flips(all[i]) == (i == 2 ? 0xFFFFu : 0u));
+        EXPECT(gazenohyri_bits(all[i]) == (i == 2 ? 0xFFFFu : 0u));
         EXPECT(gazenohyri_bad_rows(all[i]) == (i == 3 ? 0xFFFFu : 0u));
         EXPECT(gazenohyri_bad_columns(all[i]) == (i == 4 ? 0xFFFFu : 0u));
     }
     uint64_t answer = UINT64_C(0x0100010240002008);
-    describe("spent, 32 passes, 16384 flips, 258 rows, 256 columns");
+    describe("spent, 32 passes, 16384 bits, 258 rows, 256 columns");
     EXPECT(gazenohyri_number(answer) == GAZENOHYRI_SPENT);
-    EXPECT(gazenohyri_passes(answer) == 32 && gazenohyri_flips(answer) == 16384);
+    EXPECT(gazenohyri_passes(answer) == 32 && gazenohyri_bits(answer) == 16384);
     EXPECT(gazenohyri_bad_rows(answer) == 258 && gazenohyri_bad_columns(answer) == 256);
 }
 

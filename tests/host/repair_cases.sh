@@ -49,13 +49,13 @@ bad_allowance='refused, number 4: the allowance is not 1 to 32, nothing written'
 repair 'clean' 0 'clean' a a out 18
 repair 'clean, 256 rows' 0 'clean' a256 a256 out 256 32
 repair 'clean, the spare bit gone' 0 'clean' a spare out 18
-repair 'one bit' 0 'repaired in 1 pass, 1 bit flipped' a one out 18
-repair 'item B' 0 'repaired in 1 pass, 2 bits flipped' a b out 18 1
-repair 'item C' 0 'repaired in 2 passes, 36 bits flipped' a c out 18
+repair 'one bit' 0 'repaired in 1 pass, 1 bit mended' a one out 18
+repair 'item B' 0 'repaired in 1 pass, 2 bits mended' a b out 18 1
+repair 'item C' 0 'repaired in 2 passes, 36 bits mended' a c out 18
 repair 'item C, allowance 1' 1 "spent after 1 pass: 2 rows and 18 columns $unmended" - c out 18 1
 repair 'item D' 1 "stuck after 2 passes: 3 rows and 3 columns $unmended" - d out 18
 cp "$files/before" "$files/out"
-repair 'an output that is there is replaced' 0 'repaired in 1 pass, 2 bits flipped' a b out 18
+repair 'an output that is there is replaced' 0 'repaired in 1 pass, 2 bits mended' a b out 18
 cp "$files/before" "$files/out"
 repair 'and kept where nothing is repaired' 1 "stuck after 2 passes: 3 rows and 3 columns $unmended" before d out 18 32
 repair 'n' 2 "$bad_n" - b out 17

@@ -129,7 +129,7 @@ static int report(uint64_t answer)
     }
     if (number == GAZENOHYRI_OK) {
         print_count("repaired in ", passes, "pass", "passes");
-        print_count(", ", gazenohyri_flips(answer), "bit flipped\n", "bits flipped\n");
+        print_count(", ", gazenohyri_bits(answer), "bit mended\n", "bits mended\n");
         return DONE;
     }
     if (number == GAZENOHYRI_STUCK || number == GAZENOHYRI_SPENT) {

@@ -78,7 +78,7 @@ int main(void)
     for (size_t i = 0; i < sizeof frame; i++)
         received[i] = (uint8_t)(frame[i] ^ (i % 32 < 3 ? i % 251 : 0)); /* many words of none, one, two and more wrong bits */
     size_t decoding = stack_use(decode, GAZENOHYRI_SPENT);
-    if (gazenohyri_passes(answer) < 2 || gazenohyri_flips(answer) == 0) {
+    if (gazenohyri_passes(answer) < 2 || gazenohyri_bits(answer) == 0) {
         puts("decode had too little to do");
         return 1;
     }

@@ -17,16 +17,19 @@ use Rattle.laws.proofs.PassStepLaws as steps
 use Rattle.frame.specs.declared.decode.Ending.{Ending}
 use Rattle.frame.specs.declared.decode.Report.{Report}
 use Rattle.frame.specs.declared.decode.Decoded.the-variants.{Ended}
-use Rattle.frame.specs.Said.{endingOf, reportOf, decodedOf, isFailure}
+use Rattle.frame.specs.Said.{endingOf, reportWith, reportOf, decodedOf, isFailure}
 
--- a report of the outcome, its ending as the code has it, and the buffer its frame
+-- a report, but for its ending
+abbrev endedAs : Report → Ending → Report
+endedAs x e = record { ending = e; passes = x .passes; bits = x .bits; rows = x .rows; columns = x .columns }
+
+-- a report whose ending and other fields are those of the outcome is the outcome's, and the buffer its frame
 pub reported :
-    {n a : ℕ} {f : Frame} {s : List ℕ} {e : passes.Ending} {p b r c : ℕ} {ending : Ending}
-    → ending ≡ endingOf e → steps.Ended smallCode n a f s e p b r c
-    → (_≡_ {A = Report} (record { ending = ending; passes = p; bits = b; rows = r; columns = c }) (reportOf (decoded smallCode n a f)))
-    × (s ≡ bytesOf n (decoded smallCode n a f .last))
-reported {n = n} {p = p} {b = b} {r = r} {c = c} q h = (
-  ap (λ (d : Ending). record { ending = d; passes = p; bits = b; rows = r; columns = c }) q ∙ ap reportOf (sym (h .outcome)),
+    {n a : ℕ} {f : Frame} {s : List ℕ} {e : passes.Ending} {p b r c : ℕ} {x : Report}
+    → x .ending ≡ endingOf e → steps.Ended smallCode n a f s e p b r c → endedAs x (endingOf e) ≡ reportWith e p b r c
+    → (x ≡ reportOf (decoded smallCode n a f)) × (s ≡ bytesOf n (decoded smallCode n a f .last))
+reported {n = n} {x = x} q h same = (
+  ap (endedAs x) q ∙ same ∙ ap reportOf (sym (h .outcome)),
   h .packed ∙ ap (λ o. bytesOf n (o .last)) (sym (h .outcome)),
 )
 

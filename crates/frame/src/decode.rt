@@ -117,10 +117,11 @@ fn repair(n: usize, allowance: usize, received: &[u8], s: &mut [u8]) -> Report
             break Ending::Spent;
         }
     };
+    let bits = differences(n, received, s);
     Report {
         ending,
         passes,
-        bits: differences(n, received, s),
+        bits,
         rows,
         columns,
     }

@@ -38,7 +38,7 @@ fn decoded(code: &Code, random: &mut Random, seen: &mut [usize; 4]) -> (String, 
         Ending::Spent => "spent",
     };
     let (rows, columns) = (answer.bad_rows, answer.bad_columns);
-    let counts = [answer.passes, answer.flips, rows, columns].map(|x| x.to_string());
+    let counts = [answer.passes, answer.bits, rows, columns].map(|x| x.to_string());
     let report = format!("{}\t{}\t{}\n", number, ending, counts.join("\t"));
     (line_of(number, n, allowance, &frame), report)
 }

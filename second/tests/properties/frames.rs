@@ -34,7 +34,7 @@ fn rows_first_equals_columns_first() {
 fn plain_decode(code: &Code, allowance: usize, start: &[Vec<bool>]) -> (Report, Vec<Vec<bool>>) {
     let bad = |rows: &[Vec<bool>]| rows.iter().filter(|row| !is_codeword(row)).count();
     let mut rows = start.to_vec();
-    let (mut passes, mut flips, mut changed) = (0, 0, 0);
+    let (mut passes, mut changed) = (0, 0);
     loop {
         let (bad_rows, bad_columns) = (bad(&rows), bad(&turned(&rows)));
         let ending = match (bad_rows + bad_columns, passes) {
@@ -45,10 +45,12 @@ fn plain_decode(code: &Code, allowance: usize, start: &[Vec<bool>]) -> (Report, 
             _ => None,
         };
         if let Some(ending) = ending {
+            let pairs = rows.iter().zip(start);
+            let bits = pairs.map(|(last, first)| differences(last, first).len()).sum();
             let report = Report {
                 ending,
                 passes,
-                flips,
+                bits,
                 bad_rows,
                 bad_columns,
             };
@@ -57,11 +59,10 @@ fn plain_decode(code: &Code, allowance: usize, start: &[Vec<bool>]) -> (Report, 
         let columns = passes % 2 == 1;
         changed = plain_pass(code, columns, &mut rows);
         passes += 1;
-        flips += changed;
     }
 }
 
-/// Mends every row, or every column, and counts the flips.
+/// Mends every row, or every column; how many bits that changes.
 fn plain_pass(code: &Code, columns: bool, rows: &mut Vec<Vec<bool>>) -> usize {
     let mut words = if columns { turned(rows) } else { rows.clone() };
     let mut changed = 0;

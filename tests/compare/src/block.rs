@@ -162,7 +162,7 @@ impl Block<'_> {
     fn note_frame(&mut self, case: &Case, said: &Said, written: &[u8]) {
         let (tally, passes) = (&mut self.tally, said.passes());
         tally.reach("passes", passes);
-        tally.reach("flips", said.flips());
+        tally.reach("bits", said.bits());
         tally.meet("allowance", case.argument);
         let (ending, special) = match (said.number(), passes) {
             (0, 0) => ("Clean", ""),

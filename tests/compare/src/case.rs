@@ -61,7 +61,7 @@ impl Said {
         self.result >> 8 & 0xff
     }
 
-    pub fn flips(&self) -> u64 {
+    pub fn bits(&self) -> u64 {
         self.result >> 16 & 0xffff
     }
 }
@@ -154,9 +154,9 @@ impl Case {
 }
 
 fn pack_report(report: Report) -> u64 {
-    let counts = [report.passes, report.flips, report.bad_rows, report.bad_columns];
-    let [passes, flips, rows, columns] = counts.map(|count| count as u64);
-    u64::from(report.number()) | passes << 8 | flips << 16 | rows << 32 | columns << 48
+    let counts = [report.passes, report.bits, report.bad_rows, report.bad_columns];
+    let [passes, bits, rows, columns] = counts.map(|count| count as u64);
+    u64::from(report.number()) | passes << 8 | bits << 16 | rows << 32 | columns << 48
 }
 
 fn pack_answer(answer: Answer) -> u64 {

@@ -5,12 +5,13 @@ use crate::case::Entry;
 use crate::frames::case;
 use crate::promise::Promise;
 use shared::bits::{flip_at, has_spare_bits, on_spare_bits, row_mut, square_bytes, CHECK_BITS};
+use shared::damage;
 
 /// Decodes a frame: the answer, as its five counts, and the output must be these.
 fn decode(block: &mut Block, allowance: usize, received: &[u8], counts: [u64; 5], output: &[u8]) {
     let case = case(block, allowance, received.to_vec());
-    let [number, passes, flips, rows, columns] = counts;
-    let result = number | passes << 8 | flips << 16 | rows << 32 | columns << 48;
+    let [number, passes, bits, rows, columns] = counts;
+    let result = number | passes << 8 | bits << 16 | rows << 32 | columns << 48;
     block.check(case, Promise::Exactly(result, output.to_vec()), &[]);
 }
 
@@ -58,11 +59,11 @@ pub fn bands(block: &mut Block) {
     }
 }
 
-/// Two rows flipped, emptied or filled; two columns flipped; eight wrong bits, hard for rows and for columns; and two spoiled
-/// rows with two wrong bits in each other.
+/// Two rows flipped, emptied or filled; two columns flipped; eight wrong bits, hard for rows and for columns; two spoiled rows with
+/// two wrong bits in each other; and the most that the promise allows.
 pub fn just_mended(block: &mut Block) {
     let n = block.n;
-    for kind in 0..5 {
+    for kind in 0..6 {
         let written = block.write_random().frame;
         let mut received = written.clone();
         let (lines, left) = (block.random.distinct(2, n), block.random.below(n - 5));
@@ -74,7 +75,7 @@ pub fn just_mended(block: &mut Block) {
             }
             2 => (0..2 * n).for_each(|place| flip_at(n, &mut received, place / 2, lines[place % 2])),
             3 => (0..8).for_each(|e| flip_at(n, &mut received, lines[0].min(n - 3) + e / 3, left + e % 3)),
-            _ => {
+            4 => {
                 for i in 0..n {
                     flip_at(n, &mut received, i, left + block.random.below(2));
                     flip_at(n, &mut received, i, left + 2 + block.random.below(2));
@@ -82,6 +83,7 @@ pub fn just_mended(block: &mut Block) {
                     flip_at(n, &mut received, lines[1], block.random.below(n));
                 }
             }
+            _ => damage::most_of_class(n, &mut received, [lines[0], lines[1]]),
         }
         let allowance = if kind == 4 { block.random.within(2, 32) } else { 2 };
         let case = case(block, allowance, received);

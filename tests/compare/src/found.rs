@@ -92,10 +92,10 @@ fn said(case: &Case, said: &Said) -> String {
     let result = match case.entry {
         Entry::Encode | Entry::Read => format!("number {}", said.result),
         Entry::Decode => format!(
-            "number {}, passes {}, flips {}, bad rows {}, bad columns {}",
+            "number {}, passes {}, bits {}, bad rows {}, bad columns {}",
             said.number(),
             said.passes(),
-            said.flips(),
+            said.bits(),
             field(32, 16),
             field(48, 16)
         ),

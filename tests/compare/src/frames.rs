@@ -204,11 +204,11 @@ fn sixteen_bits(block: &mut Block) {
         let allowance = allowance(&mut block.random);
         let case = case(block, allowance, received.clone());
         let promise = if allowance == 1 {
-            let (passes, flips, bad_columns) = (1, 8, 6);
-            Promise::Exactly(8 | passes << 8 | flips << 16 | bad_columns << 48, received)
+            let (passes, bits, bad_columns) = (1, 8, 6);
+            Promise::Exactly(8 | passes << 8 | bits << 16 | bad_columns << 48, received)
         } else {
-            let (passes, flips) = (2, 20);
-            Promise::Exactly(passes << 8 | flips << 16, other)
+            let (passes, bits) = (2, 20);
+            Promise::Exactly(passes << 8 | bits << 16, other)
         };
         block.check(case, promise, &written);
     }

@@ -25,16 +25,18 @@ fn decode(block: &mut Block, allowance: usize, frame: Vec<u8>, result: u64, mend
     block.check(case, Promise::Exactly(result, output), &[]);
 }
 
-fn packed(number: u64, passes: u64, flips: u64, rows: u64, columns: u64) -> u64 {
-    number | passes << 8 | flips << 16 | rows << 32 | columns << 48
+fn packed(number: u64, passes: u64, bits: u64, rows: u64, columns: u64) -> u64 {
+    number | passes << 8 | bits << 16 | rows << 32 | columns << 48
 }
 
 /// Each at every allowance, with and without spare bits; and each spare bit alone.
 fn frames(block: &mut Block) {
     let item = |bytes: &[u8]| [bytes, &vec![0; 54 - bytes.len()]].concat();
-    let all = [&[][..], &[0xc0], &[0xff, 0xff, 0xc0, 0xff, 0xff, 0xc0], &[0xe0, 0, 0, 0xe0, 0, 0, 0xe0], &[0, 0, 0x40]];
+    let (c, d): (&[u8], &[u8]) = (&[0xff, 0xff, 0xc0, 0xff, 0xff, 0xc0], &[0xe0, 0, 0, 0xe0, 0, 0, 0xe0]);
+    // Ten of the twelve ones: pass 1 sets the two others, pass 2 clears all.
+    let all = [&[][..], &[0xc0], c, d, &[0, 0, 0x40], &[0x17, 0xb1, 0xc0]];
     for spare in [0, 0x3f] {
-        let [a, b, c, d, last] = all.map(item).map(|mut frame| {
+        let [a, b, c, d, last, ten] = all.map(item).map(|mut frame| {
             on_spare_bits(18, &mut frame, |byte, mask| *byte |= mask & spare);
             frame
         });
@@ -42,12 +44,13 @@ fn frames(block: &mut Block) {
             decode(block, allowance, a.clone(), 0, true);
             decode(block, allowance, b.clone(), packed(0, 1, 2, 0, 0), true);
             decode(block, allowance, last.clone(), packed(0, 1, 1, 0, 0), true);
-            let (third, fourth) = match allowance {
-                1 => (packed(8, 1, 0, 2, 18), packed(8, 1, 0, 3, 3)),
-                _ => (packed(0, 2, 36, 0, 0), packed(7, 2, 0, 3, 3)),
+            let [third, fourth, sixth] = match allowance {
+                1 => [packed(8, 1, 0, 2, 18), packed(8, 1, 0, 3, 3), packed(8, 1, 2, 0, 12)],
+                _ => [packed(0, 2, 36, 0, 0), packed(7, 2, 0, 3, 3), packed(0, 2, 10, 0, 0)],
             };
             decode(block, allowance, c.clone(), third, allowance > 1);
             decode(block, allowance, d.clone(), fourth, false);
+            decode(block, allowance, ten.clone(), sixth, allowance > 1);
         }
     }
     for place in (0..18 * 24).filter(|place| place % 24 >= 18) {

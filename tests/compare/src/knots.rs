@@ -45,8 +45,9 @@ pub fn knots(block: &mut Block) {
 
 fn promise(knots: u64, allowance: u64, received: Vec<u8>) -> Promise {
     let (rows, columns) = if allowance % 2 == 1 { (2, 6) } else { (4, 4) };
-    let (flips, rows, columns) = (4 * knots * allowance, knots * rows, knots * columns);
-    let result = 8 | allowance << 8 | flips << 16 | rows << 32 | columns << 48;
+    // Those that the last pass over rows has added, where none over columns took them back.
+    let bits = 4 * knots * (allowance % 2);
+    let result = 8 | allowance << 8 | bits << 16 | (knots * rows) << 32 | (knots * columns) << 48;
     Promise::Exactly(result, received)
 }
 

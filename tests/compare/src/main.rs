@@ -3,6 +3,7 @@
 use compare::block::{Kind, Tally};
 use compare::kinds;
 use second::Code;
+use shared::bits::LONGEST;
 use shared::run::Scale;
 use shared::score::{grouped, Score};
 
@@ -58,11 +59,11 @@ fn coverage(score: &mut Score, total: &Tally, scale: Scale) {
     met("the four endings for frames", &frames);
     met("frames that test the endings", &special);
     met("the refusals 1 to 6", &refused);
-    let (passes, flips) = (total.most("passes"), total.most("flips"));
+    let (passes, bits) = (total.most("passes"), total.most("bits"));
     let all = total.missing("allowance", 1..=32).is_none() && passes == 32;
     score.met("every allowance, up to all 32 passes", all, &format!("most passes {}", passes));
-    let many = scale.quick || flips >= 1 << 12;
-    score.met("flips past 12 bits in one frame", many, &format!("most flips {}", grouped(flips)));
+    let many = scale.quick || bits >= 4 * LONGEST as u64 - 4;
+    score.met("as many bits as the promise allows", many, &format!("most bits {}", grouped(bits)));
     let sum = |kinds: &[&str]| kinds.iter().map(|kind| total.of(kind)).sum::<u64>();
     let counts = [sum(&words), sum(&frames), total.of("cases"), total.of("promises")];
     let least = if scale.quick { [20_000, 2_000] } else { [1_000_000, 100_000] };

@@ -8,9 +8,6 @@ pub enum Promise {
     None,
     /// This result, packed, and this output.
     Exactly(u64, Vec<u8>),
-    /// A frame with at most two rows that have three or more wrong bits: number 0, at most two
-    /// passes, no bad rows or columns, and this output.
-    Mended(Vec<u8>),
     /// Number 0, and the frame of this n that has this data, by long division.
     Encoded(usize, Vec<u8>),
 }
@@ -29,21 +26,17 @@ impl Promise {
         match self {
             Promise::None => true,
             Promise::Exactly(result, output) => said.result == *result && said.output == *output,
-            Promise::Mended(frame) => {
-                let counts = said.result >> 32;
-                said.number() == 0 && said.passes() <= 2 && counts == 0 && said.output == *frame
-            }
             Promise::Encoded(n, data) => said.result == 0 && is_frame_of(*n, data, &said.output),
         }
     }
 
     /// What follows for decode from the rows' numbers of wrong bits.
     pub fn of_frame(case: &Case, written: &[u8]) -> Promise {
-        let passes = 1 << 8;
+        let mended = |passes: u64, wrong| Promise::Exactly(passes << 8 | (wrong as u64) << 16, written.to_vec());
         match follows(case.n, case.argument, written, &case.input) {
-            Follows::Clean => Promise::Exactly(0, written.to_vec()),
-            Follows::OnePass(flips) => Promise::Exactly(passes | (flips as u64) << 16, written.to_vec()),
-            Follows::TwoPasses(_) => Promise::Mended(written.to_vec()),
+            Follows::Clean => mended(0, 0),
+            Follows::OnePass(wrong) => mended(1, wrong),
+            Follows::TwoPasses(wrong) => mended(2, wrong),
             Follows::Nothing => Promise::None,
         }
     }

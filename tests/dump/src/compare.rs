@@ -192,6 +192,6 @@ fn note_record(tally: &mut Tally, text: &[u8], said: &Said) {
         let n = text.split(|&byte| byte == b'\t').nth(1).and_then(|n| std::str::from_utf8(n).ok()?.parse().ok());
         tally.meet("n", n.unwrap_or(0).min(LONGEST));
         tally.reach("passes", said.counts[0] as u64);
-        tally.reach("flips", said.counts[1] as u64);
+        tally.reach("bits", said.counts[1] as u64);
     }
 }

@@ -3,6 +3,7 @@
 use crate::records;
 use crate::text::{Dump, Line};
 use shared::bits::{bit, clear_spare_bits, flip_at, square_bytes};
+use shared::damage;
 
 /// At n = 18, the one codeword beside zero.
 const OTHER: [u8; 3] = [0xb7, 0xb1, 0xc0];
@@ -56,6 +57,9 @@ fn at_18() -> Vec<Line> {
     let a = corner(0, 1);
     let spare = with_bits(&[(0, 18), (17, 23)]);
     let only_last = with_bits(&[(0, 17)]);
+    // Ten of the twelve ones of the codeword: pass 1 sets the two others, pass 2 clears all.
+    let mut ten = a.clone();
+    ten[..3].copy_from_slice(&[0x17, 0xb1, 0xc0]);
     vec![
         line(10, 18, 1, &corner(2, 18), "spent 1 0 2 18"),
         line(11, 18, 1, &data_bit_1(), "clean 0 0 0 0"),
@@ -70,7 +74,20 @@ fn at_18() -> Vec<Line> {
         line(20, 18, 2, &[&a[..], &[0]].concat(), "refused 2 0 0 0"),
         line(21, 18, 33, &a[..53], "refused 2 0 0 0"),
         line(22, 257, 33, &a, "refused 1 0 0 0"),
+        line(23, 18, 2, &ten, "repaired 2 10 0 0"),
+        line(24, 18, 1, &ten, "spent 1 2 0 12"),
     ]
+}
+
+/// The greatest counts that the promise allows, where n has two and three digits.
+fn most_bits() -> Vec<Line> {
+    let counts = [(99, "repaired 2 392 0 0"), (256, "repaired 2 1020 0 0")];
+    let line = |(n, said)| {
+        let mut frame = vec![0; square_bytes(n)];
+        damage::most_of_class(n, &mut frame, [0, n - 1]);
+        line(n, n, 2, &frame, said)
+    };
+    counts.into_iter().map(line).collect()
 }
 
 fn of_ones() -> Vec<Line> {
@@ -84,7 +101,7 @@ fn of_ones() -> Vec<Line> {
 }
 
 pub fn all() -> Vec<Dump> {
-    let parts = [example(), at_18(), of_ones()];
+    let parts = [example(), at_18(), of_ones(), most_bits()];
     let mut dumps = vec![Dump::of(parts.concat(), true)];
     for lines in parts {
         dumps.push(Dump::of(lines.clone(), true));

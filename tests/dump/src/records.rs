@@ -64,7 +64,7 @@ fn received(maker: &mut Maker, n: usize, written: &[u8], mut frame: Vec<u8>) -> 
     match follows(n, allowance, written, &frame) {
         Follows::Clean => Line::says(text, number, "clean 0 0 0 0"),
         Follows::OnePass(wrong) => Line::says(text, number, &format!("repaired 1 {} 0 0", wrong)),
-        Follows::TwoPasses(wrong) => Line { text, expect: Expect::Mended { number, wrong } },
+        Follows::TwoPasses(wrong) => Line::says(text, number, &format!("repaired 2 {} 0 0", wrong)),
         Follows::Nothing => Line { text, expect: Expect::Ended { number, allowance } },
     }
 }

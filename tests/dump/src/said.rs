@@ -4,7 +4,7 @@
 pub struct Said<'a> {
     pub number: usize,
     pub ending: &'a str,
-    /// Passes, flips, rows, columns; the number of a refusal and three zeros.
+    /// Passes, bits, rows, columns; the number of a refusal and three zeros.
     pub counts: [usize; 4],
 }
 
@@ -31,10 +31,10 @@ impl Said<'_> {
 
     /// The counts agree with the ending.
     fn possible(&self) -> bool {
-        let [passes, flips, rows, columns] = self.counts;
+        let [passes, bits, rows, columns] = self.counts;
         match self.ending {
             "clean" => self.counts == [0; 4],
-            "repaired" => (1..=32).contains(&passes) && flips > 0 && rows == 0 && columns == 0,
+            "repaired" => (1..=32).contains(&passes) && bits > 0 && rows == 0 && columns == 0,
             "stuck" => (2..=32).contains(&passes) && rows + columns > 0,
             "spent" => (1..=32).contains(&passes) && rows + columns > 0,
             "refused" => [1, 2, 4].contains(&passes) && self.counts[1..] == [0; 3],

@@ -15,8 +15,6 @@ pub enum Expect {
     Exactly(String),
     /// One of the four endings, and no more passes than were allowed.
     Ended { number: usize, allowance: usize },
-    /// So many wrong bits, three or more of them in one row or in each of two: two passes.
-    Mended { number: usize, wrong: usize },
     /// `?` and the number of the line, or a record's line with the number that the line begins with.
     Either,
 }
@@ -140,12 +138,6 @@ fn kept(line: &Line, line_number: usize, said: &[u8]) -> bool {
         (Expect::Exactly(text), _) => said == text.as_bytes(),
         (Expect::Ended { number, allowance }, Some(record)) => {
             record.number == *number && record.ended() && record.counts[0] <= *allowance
-        }
-        (Expect::Mended { number, wrong }, Some(record)) => {
-            let [passes, flips, rows, columns] = record.counts;
-            let undone = flips >= *wrong && (flips - wrong) % 2 == 0;
-            let whole = record.ending == "repaired" && [passes, rows, columns] == [2, 0, 0];
-            record.number == *number && whole && undone
         }
         (Expect::Either, Some(_)) => {
             let first = |text: &[u8]| text.iter().position(|&byte| byte == b'\t');

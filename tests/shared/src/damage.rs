@@ -20,6 +20,14 @@ pub fn few_in_each_row(random: &mut Random, n: usize, frame: &mut [u8]) {
     }
 }
 
+/// As many wrong bits as the promise allows, 4 n - 4: all of two rows, and two of each other row.
+pub fn most_of_class(n: usize, frame: &mut [u8], lines: [usize; 2]) {
+    for i in 0..n {
+        let wrong = if lines.contains(&i) { 0..n } else { i % (n - 1)..i % (n - 1) + 2 };
+        wrong.for_each(|j| flip_at(n, frame, i, j));
+    }
+}
+
 /// What a lost row or column turns into.
 #[derive(Clone, Copy)]
 pub enum Loss {

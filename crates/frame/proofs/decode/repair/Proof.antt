@@ -26,6 +26,7 @@ use Rattle.laws.proofs.PassStepLaws.{
   ended-stuck,
   ended-spent,
 }
+use Rattle.frame.specs.Said.{cleanReport}
 use Rattle.frame.proofs.ReportLaws.{reported}
 use Rattle.frame.proofs.decode.repair.Statement.{statement}
 use Rattle.frame.proofs.decode.repair.Tie as tie
@@ -99,7 +100,8 @@ returns c =
     let q = b .before .before .before .before .before .before in
     let k = q .pre .0 in
     let d =
-    reported refl (ended-clean smallCode _ _ _ (q .args .s .now) _ _ (k .0) (k .2) (b .before .before .bad .ensures .0) (b .bad2 .ensures .0) (c .before .if1 .taken)) in
+    reported {x = cleanReport} refl
+    (ended-clean smallCode _ _ _ (q .args .s .now) _ _ (k .0) (k .2) (b .before .before .bad .ensures .0) (b .bad2 .ensures .0) (c .before .if1 .taken)) refl in
     (c .clean .ensures ∙ d .0, d .1)
 
 loop-holds : tie.Need-loop-holds Inv-loop2 μ-loop2 Inv-loop μ-loop
@@ -165,10 +167,10 @@ returns-2 : tie.Need-returns-2 Inv-loop2 μ-loop2 Inv-loop μ-loop
 returns-2 c =
     let m = made (c .before .before .before) in
     let bits = c .differences .ensures in
-    ⊎-elim (λ w. reported (w .1) (ended-repaired smallCode m refl _ bits (w .0 .taken)))
+    ⊎-elim (λ w. reported (w .1) (ended-repaired smallCode m refl _ bits (w .0 .taken)) refl)
     (⊎-elim
-    (λ w. reported (w .3) (ended-stuck smallCode m refl _ bits (w .0 .left) (sym (w .1 .ensures) ∙ w .2 .taken)))
-    (λ w. reported (w .4) (ended-spent smallCode m refl _ bits (w .0 .left) (sym (w .1 .ensures) ∙ w .2 .left) (w .3 .taken))))
+    (λ w. reported (w .3) (ended-stuck smallCode m refl _ bits (w .0 .left) (sym (w .1 .ensures) ∙ w .2 .taken)) refl)
+    (λ w. reported (w .4) (ended-spent smallCode m refl _ bits (w .0 .left) (sym (w .1 .ensures) ∙ w .2 .left) (w .3 .taken)) refl))
     (c .before .before .if2 .came)
 
 pub repair-spec : {M : Type 1} → statement M
