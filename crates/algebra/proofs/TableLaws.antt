@@ -7,6 +7,7 @@ use mathlib.Core.List.{List, [], _∷_}
 use Prim.Native.Nat.{ℕ, zero, suc, _+_, _*_, _≤_, _<_}
 use native.Mathlib.Nat.{mul-zero, mul-add, mul-suc, not-suc-le-zero, le-of-suc-le-suc}
 use native.Mathlib.Decide.{ℕ-discrete}
+use native.Mathlib.Numerals.{add-one}
 use native.Mathlib.Omega.{arith}
 use lib.ListN.{length, getD, List·getD-eq-default}
 use lib.Seq.{ext-getD}
@@ -73,6 +74,10 @@ total-none f = ap sum (tab-zero f)
 pub total-last : (n : ℕ) (f : ℕ → ℕ) → total (suc n) f ≡ total n f + f n
 total-last zero f = omega (arith, total-suc 0 f, total-none f, total-none (λ i. f (suc i)))
 total-last (suc n) f = omega (arith, total-suc (suc n) f, total-suc n f, total-last n (λ i. f (suc i)))
+
+-- the same as a loop's counter has it
+pub total-next : (n : ℕ) (f : ℕ → ℕ) → total (n + 1) f ≡ total n f + f n
+total-next n f = ap (λ m. total m f) (add-one n) ∙ total-last n f
 
 -- a count is the sum of ones
 pub count-total : (n : ℕ) (p : ℕ → Bool) → count n p ≡ total n (λ i. num (p i))

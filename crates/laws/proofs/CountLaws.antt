@@ -5,7 +5,6 @@ use mathlib.Core.Bool.{xor}
 use mathlib.Core.List.{List}
 use Prim.Native.Nat.{ℕ, zero, suc, _+_, _*_, _-_, _/_, _%_, _^_, _≤_, _<_}
 use native.Mathlib.Nat.{div-one, mul-assoc, pow-suc}
-use native.Mathlib.Numerals.{add-one}
 use native.Mathlib.Omega.{arith}
 use lib.Bits.{bitXor}
 use lib.Count.{ones, ones-step, ones-le}
@@ -16,7 +15,7 @@ use Rattle.algebra.specs.Tables.{num, total}
 use Rattle.algebra.specs.Words.{bit, differ}
 use Rattle.algebra.specs.Remainder.{isOdd}
 use Rattle.algebra.proofs.Digits.{num-le, num-odd}
-use Rattle.algebra.proofs.TableLaws.{total-none, total-last, total-split, total-most, total-ext}
+use Rattle.algebra.proofs.TableLaws.{total-none, total-last, total-next, total-split, total-most, total-ext}
 use Rattle.algebra.proofs.XorLaws.{⊕-lt, ⊕-div, odd-⊕}
 use Rattle.rules.specs.Frames.{row}
 use Rattle.rules.specs.Bits.{rowBytes, stride, bitAt, wordOf, frameOf}
@@ -120,17 +119,12 @@ differ-more s t at k m =
 
 -- ---- a row, byte by byte
 
-module _ (s t : List ℕ) (at b found r : ℕ) (e : found ≡ differAt (b * 8) s t at) where
-  pub bytes-more : r ≡ differAt 8 s t (at + b) → found + r ≡ differAt ((b + 1) * 8) s t at
-  bytes-more h =
-      let next : b * 8 + 8 ≡ (b + 1) * 8 = omega arith in
-      ap₂ _+_ e h ∙ sym (differ-more s t at b 8) ∙ ap (λ (m : ℕ). differAt m s t at) next
-
-  -- the last byte has the rest of n bits
-  pub bytes-all : (n : ℕ) → b * 8 ≤ n → r ≡ differAt (n - b * 8) s t (at + b) → found + r ≡ differAt n s t at
-  bytes-all n l h =
-      let all : b * 8 + (n - b * 8) ≡ n = omega arith in
-      ap₂ _+_ e h ∙ sym (differ-more s t at b (n - b * 8)) ∙ ap (λ (m : ℕ). differAt m s t at) all
+-- m bits of byte b, behind those before it that are counted
+pub bytes-more :
+    (s t : List ℕ) (at b m n found r : ℕ) → found ≡ differAt (b * 8) s t at → r ≡ differAt m s t (at + b) → b * 8 + m ≡ n
+    → found + r ≡ differAt n s t at
+bytes-more s t at b m n found r e h l =
+    ap₂ _+_ e h ∙ sym (differ-more s t at b m) ∙ ap (λ (k : ℕ). differAt k s t at) l
 
 -- ---- the rows of two frames
 
@@ -152,8 +146,7 @@ module _ (n : ℕ) (s t : List ℕ) where
   unfolding differRows differAt
   rows-more k w r h ew er =
       let e : k * w * 8 ≡ k * stride n = ap (λ (x : ℕ). k * x * 8) ew ∙ mul-assoc k (rowBytes n) 8 in
-      sym (ap (λ (m : ℕ). total m inRow) (add-one k)
-      ∙ total-last k inRow
+      sym (total-next k inRow
       ∙ ap (λ x. total k inRow + x)
       (ap₂ differ (frameOf-row n s k h) (frameOf-row n t k h)
       ∙ sym (er ∙ ap (λ (a : ℕ). differ (wordOf n s a) (wordOf n t a)) e)))

@@ -5,14 +5,13 @@ use mathlib.Core.Logic.{_≢_}
 use mathlib.Core.Bool.{Bool, true, false, not}
 use mathlib.Core.List.{List}
 use Prim.Native.Nat.{ℕ, suc, _+_, _*_, _-_, _≤_, _<_}
-use native.Mathlib.Numerals.{add-one}
 use native.Mathlib.Omega.{arith}
 use borrow.Author.Tests.{eq-eqb, ne-eqb}
 use lib.ListN.{length}
 use Rattle.algebra.specs.Tables.{num, count, total}
 use Rattle.algebra.specs.Words.{differ}
 use Rattle.algebra.specs.Remainder.{isOdd}
-use Rattle.algebra.proofs.TableLaws.{total-none, total-last, count-total}
+use Rattle.algebra.proofs.TableLaws.{total-none, total-next, count-total}
 use Rattle.rules.specs.Codes.{Code, radiusLimit}
 use Rattle.rules.specs.Words.{checks, isCodeword, answer, places, mend}
 use Rattle.rules.specs.Frames.{Frame, row, badRows, badColumns, isFrame, Square}
@@ -37,9 +36,8 @@ badFirst code n g k = count k (λ i. not (isCodeword code n (row g i)))
 
 count-last : (k : ℕ) (p : ℕ → Bool) → count (k + 1) p ≡ count k p + num (p k)
 count-last k p =
-    ap (λ m. count m p) (add-one k)
-    ∙ count-total (suc k) p
-    ∙ total-last k (λ i. num (p i))
+    count-total (k + 1) p
+    ∙ total-next k (λ i. num (p i))
     ∙ ap (λ m. m + num (p k)) (sym (count-total k p))
 
 pub bad-none : (code : Code) (n : ℕ) (g : Frame) → 0 ≡ badFirst code n g 0
@@ -119,7 +117,7 @@ passing-more code {n = n} {f = f} {columns = columns} {s = s} {k = k} p q w h e 
       done = put-is ∙ ap (λ u. put n s (startOf n columns k) (stepOf n columns) (mend code n u)) same
           ∙ put-worked code n s columns (mend code n) k f (mend-keeps code n) q w h (p .done);
       flips = ap₂ _+_ (p .flips) (e ∙ ap (λ u. differ u (mend code n u)) same)
-          ∙ sym (ap (λ m. total m (flipsOf code n (turned n columns f))) (add-one k) ∙ total-last k (flipsOf code n (turned n columns f)));
+          ∙ sym (total-next k (flipsOf code n (turned n columns f)));
       few = omega (arith, p .few);
     }
   where

@@ -1,11 +1,11 @@
 -- `differences::row_differences` meets its contract: the loop has counted in the first `b` bytes of the row.
 -- Assumes nothing.
-use mathlib.Core.Path.{_≡_, sym, ap₂, _∙_}
+use mathlib.Core.Path.{_≡_, ap, _∙_}
 use Prim.Native.Nat.{_+_, _*_, _-_, _≤_}
 use native.Mathlib.Omega.{arith}
 use borrow.Author.Needs.{needs}
 use Rattle.laws.specs.InPlace.{differAt}
-use Rattle.laws.proofs.CountLaws.{differ-none, differ-most, bytes-more, bytes-all}
+use Rattle.laws.proofs.CountLaws.{differ-none, differ-most, bytes-more}
 use Rattle.frame.proofs.differences.row_differences.Statement.{statement}
 use Rattle.frame.proofs.differences.row_differences.Tie as tie
 
@@ -42,7 +42,7 @@ loop-less c = search needs
 loop-again : tie.Need-loop-again Inv-loop μ-loop
 loop-again c =
     let r = c .byte-differences .ensures in
-    (search needs, search needs, bytes-more _ _ _ _ _ _ (c .before .before .loop .inv .2) (r .0))
+    (search needs, search needs, bytes-more _ _ _ _ 8 _ _ _ (c .before .before .loop .inv .2) (r .0) (omega arith))
 
 add-byte-differences-2 : tie.Need-add-byte-differences-2 Inv-loop μ-loop
 add-byte-differences-2 c = search needs
@@ -66,13 +66,11 @@ returns : tie.Need-returns Inv-loop μ-loop
 returns c =
     let a = c .before .before .before .before .before .before .args in
     let l = c .before .before .loop in
-    let r = c .byte-differences2 .ensures in
     let last = c .before .before .before .row-bytes .result - 1 in
     let end : l .b ≡ last = omega arith in
-    let rest : 8 - (last * 8 + 8 - a .n) ≡ a .n - l .b * 8 = omega arith in
     let all =
-    bytes-all (a .s .now) (a .t .now) (a .at) (l .b) (l .found) (c .byte-differences2 .result) (l .inv .2) (a .n) (omega arith)
-    (r .0 ∙ ap₂ (λ m k. differAt m (a .s .now) (a .t .now) (a .at + k)) rest (sym end)) in
+    bytes-more (a .s .now) (a .t .now) (a .at) last (8 - (last * 8 + 8 - a .n)) (a .n) (l .found) (c .byte-differences2 .result)
+    (l .inv .2 ∙ ap (λ k. differAt (k * 8) (a .s .now) (a .t .now) (a .at)) end) (c .byte-differences2 .ensures .0) (omega arith) in
     (all, omega (arith, all, differ-most (a .s .now) (a .t .now) (a .at) (a .n)))
 
 pub row-differences-spec : {M : Type 1} → statement M
