@@ -8,8 +8,8 @@
  *  - Each function answers any bytes, lengths, n and allowance. What it can't take it refuses by number, and then no byte of
  *    the output changes.
  *  - A written frame, spoiled so that at most two of its rows have three or more wrong bits, comes back exactly, in at most two
- *    passes, at any allowance from 2 to 32. So do any eight wrong bits, any two rows lost whole, and any two columns. The bits
- *    that the answer counts are then the wrong ones, all of them and no other.
+ *    passes, at any allowance from 2 to 32. So do any eight wrong bits, any two rows lost whole, and any two columns. Whatever the
+ *    allowance, number 0 then means the written frame, and the answer counts just the wrong bits.
  *
  * Where the promise ends: past that class a repair can be WRONG. Sixteen wrong bits, in four rows and four columns of a frame
  * of 31, are 'repaired' in two passes to a frame that was never written, with number 0. Nothing in the answer tells such a
@@ -106,8 +106,9 @@ static inline uint32_t gazenohyri_passes(uint64_t answer)
     return (uint32_t)(answer >> 8 & 0xFF);
 }
 
-/* The code bits that the last pass left otherwise than they were received; a bit that is flipped and flipped back is none of them.
- * For 7 and 8 too, though the output is then the received frame. 0 where the frame was clean, and where the number is 1 to 4. */
+/* How many code bits are not as they were received when the last pass is made: a bit that was flipped and flipped back is not counted.
+ * At number 0 the output differs from the input in so many code bits; within the promise above these are the wrong ones. For 7 and
+ * 8 it counts in a frame that is not handed out. 0 where the frame was clean, and where the number is 1 to 4. */
 static inline uint32_t gazenohyri_bits(uint64_t answer)
 {
     return (uint32_t)(answer >> 16 & 0xFFFF);

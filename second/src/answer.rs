@@ -67,7 +67,7 @@ pub enum Ending {
 pub struct Report {
     pub ending: Ending,
     pub passes: usize,
-    /// Bits that are not as they were received.
+    /// Code bits of the last frame that are not as they were received.
     pub bits: usize,
     /// Rows of the last frame that are not codewords.
     pub bad_rows: usize,

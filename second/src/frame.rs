@@ -36,14 +36,15 @@ pub fn mend(tables: &Tables, start: Matrix, allowance: usize) -> (Matrix, Report
             column_pass(tables, &frame)
         };
         let flipped = frame.xor(&after);
-        // A place among the odd ones is flipped back.
-        bits = bits + flipped.ones() - 2 * flipped.and(&odd).ones();
+        let changed = flipped.ones();
+        // Those among the odd ones are flipped back.
+        bits = bits + changed - 2 * flipped.and(&odd).ones();
         odd = odd.xor(&flipped);
         frame = after;
         if is_frame(tables, &frame) {
             break Ending::Repaired;
         }
-        if passes >= 2 && flipped.ones() == 0 {
+        if passes >= 2 && changed == 0 {
             break Ending::Stuck;
         }
         if passes == allowance {

@@ -16,8 +16,9 @@
 //!
 //! A frame is held as a bit matrix. A pass over the rows maps a whole matrix
 //! to a new one, and a pass over the columns does the same to the transposed
-//! matrix. A further matrix has a one wherever a bit was flipped an odd number
-//! of times: its ones are the bits that are not as they were received.
+//! matrix. A further matrix has a one wherever a bit is not as it was received.
+//! The count goes along with it: a pass adds the bits that it flips, and takes
+//! off twice those that it flips back.
 //!
 //! # How this differs from the algebraic way
 //!

@@ -65,6 +65,7 @@ impl Matrix {
         self.with(other, |a, b| a & b)
     }
 
+    /// The matrix of `join`, taken of 64 bits at a time.
     fn with(&self, other: &Matrix, join: impl Fn(u64, u64) -> u64) -> Matrix {
         let mut new = self.clone();
         for (to, word) in new.words.iter_mut().zip(other.rows()) {
@@ -75,6 +76,7 @@ impl Matrix {
         new
     }
 
+    /// How many bits are one.
     pub fn ones(&self) -> usize {
         self.rows().iter().map(|word| word.ones() as usize).sum()
     }

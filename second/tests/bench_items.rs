@@ -82,7 +82,7 @@ fn item_d_is_stuck() {
 
 #[test]
 fn bits_that_are_flipped_and_flipped_back_are_not_counted() {
-    // Ten of its twelve ones: pass 1 sets the two others, pass 2 clears all twelve.
+    // Ten of the twelve ones of a codeword: pass 1 sets the two others, pass 2 clears all twelve.
     let received = item(&[[0x17, 0xb1, 0xc0]]);
     let repaired = report(Ending::Repaired, 2, 10, (0, 0));
     let spent = report(Ending::Spent, 1, 2, (0, 12));

@@ -8,11 +8,11 @@ use native.Mathlib.Omega.{arith}
 use lib.Dec.{eqb, eqb·zero-suc, eqb·suc-zero, eqb·suc-suc}
 use lib.ListN.{length, getD}
 use Rattle.algebra.specs.Xor.{_⊕_}
-use Rattle.algebra.specs.Tables.{tab, num, ones}
+use Rattle.algebra.specs.Tables.{tab, num, ones, total}
 use Rattle.algebra.specs.Words.{Word, bit, _⊻_, differ, kept, dot}
 use Rattle.algebra.proofs.Digits.{num-le}
 use Rattle.algebra.proofs.XorLaws.{⊕-swap, ⊕-self, ⊕-zero, zero-⊕, ⊕-assoc}
-use Rattle.algebra.proofs.TableLaws.{num-zero, tab-suc, tab-ext, zero-count}
+use Rattle.algebra.proofs.TableLaws.{num-zero, tab-suc, tab-is, tab-ext, zero-count, count-total, total-add}
 
 -- ---- xor of two bits
 
@@ -103,15 +103,23 @@ differ-zero (b ∷ w) [] h e = absurd (omega arith)
 differ-zero (b ∷ w) (c ∷ u) h e =
     ap₂ _∷_ (xor-false→≡ b c (num-zero (omega arith))) (differ-zero w u (omega arith) (omega arith))
 
+-- words of n bits differ where their bits do
+pub differ-bits :
+    (n : ℕ) (w u : Word) → length w ≡ n → length u ≡ n → differ w u ≡ total n (λ j. num (xor (bit w j) (bit u j)))
+unfolding bit
+differ-bits n w u lw lu =
+    ap ones
+    (sym (tab-is n (λ j. xor (bit w j) (bit u j)) (w ⊻ u) false (⊻-length w u (lw ∙ sym lu) ∙ lw)
+    (λ j h. sym (⊻-bit w u (lw ∙ sym lu) j))))
+    ∙ count-total n (λ j. xor (bit w j) (bit u j))
+
 -- by way of a third word they differ in as many places or more
-pub differ-way : (w u v : Word) → length w ≡ length u → length u ≡ length v → differ w v ≤ differ w u + differ u v
-unfolding _⊻_ ones
-differ-way [] [] [] h k = omega arith
-differ-way [] [] (d ∷ v) h k = absurd (omega arith)
-differ-way [] (c ∷ u) v h k = absurd (omega arith)
-differ-way (b ∷ w) [] v h k = absurd (omega arith)
-differ-way (b ∷ w) (c ∷ u) [] h k = absurd (omega arith)
-differ-way (b ∷ w) (c ∷ u) (d ∷ v) h k = omega (arith, xor-way b c d, differ-way w u v (omega arith) (omega arith))
+pub differ-way :
+    (n : ℕ) (w u v : Word) → length w ≡ n → length u ≡ n → length v ≡ n → differ w v ≤ differ w u + differ u v
+differ-way n w u v lw lu lv =
+    rw (differ-bits n w v lw lv, differ-bits n w u lw lu, differ-bits n u v lu lv)
+    (total-add n (λ j. num (xor (bit w j) (bit v j))) (λ j. num (xor (bit w j) (bit u j))) (λ j. num (xor (bit u j) (bit v j)))
+    (λ j l. xor-way (bit w j) (bit u j) (bit v j)))
 
 pub ⊻-ones : (w u : Word) → ones (w ⊻ u) ≤ ones w + ones u
 unfolding _⊻_ ones

@@ -45,12 +45,15 @@ pub ⊕-half : (a b : ℕ) → (a ⊕ b) / 2 ≡ a / 2 ⊕ b / 2
 pub ⊕-digit : (a b : ℕ) → (a ⊕ b) % 2 ≡ a % 2 ⊕ b % 2
 ⊕-digit a b = ⊕-mod 1 a b
 
--- a sum is odd where one of the two is
-pub odd-⊕ : (x y : ℕ) → isOdd (x ⊕ y) ≡ xor (isOdd x) (isOdd y)
+odd-⊕ : (x y : ℕ) → isOdd (x ⊕ y) ≡ xor (isOdd x) (isOdd y)
 unfolding _⊕_ xor
 odd-⊕ x y =
     ap (λ m. eqb m 1) (⊕-digit x y)
     ∙ digits-case (λ p q. eqb (p ⊕ q) 1 ≡ xor (eqb p 1) (eqb q 1)) refl refl refl refl (x % 2) (y % 2) (omega arith) (omega arith)
+
+-- each binary digit by itself
+pub ⊕-bit : (k x y : ℕ) → isOdd ((x ⊕ y) / 2 ^ k) ≡ xor (isOdd (x / 2 ^ k)) (isOdd (y / 2 ^ k))
+⊕-bit k x y = ap isOdd (⊕-div k x y) ∙ odd-⊕ (x / 2 ^ k) (y / 2 ^ k)
 
 -- two numbers with equal halves and equal last digits are equal
 pub by-digit : {a b : ℕ} → a / 2 ≡ b / 2 → a % 2 ≡ b % 2 → a ≡ b

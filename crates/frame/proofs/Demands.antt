@@ -3,7 +3,7 @@
 -- single word's demands stand in the crate `word`.
 -- Assumes nothing.
 use mathlib.Core.Path.{_≡_, refl, sym, ap, subst⁻¹, _∙_}
-use mathlib.Core.Logic.{_≢_, _⊎_, inl, inr}
+use mathlib.Core.Logic.{_≢_, _⊎_, inl, inr, ⊎-elim}
 use mathlib.Core.Bool.{Bool, true, false, _||_, true≢false}
 use mathlib.Core.List.{List, [], _∷_}
 use Prim.Native.Nat.{ℕ, _+_, _*_, _≤_, _<_}
@@ -17,10 +17,11 @@ use Rattle.rules.specs.Words.{isIn}
 use Rattle.rules.specs.Frames.{Frame, corner, rowsFirst}
 use Rattle.rules.specs.Bits.{rowBytes, stride, bitAt, frameOf, bytesOf}
 use Rattle.rules.specs.Passes as passes
-use Rattle.rules.specs.Passes.{Outcome, differences, decoded}
-use Rattle.rules.specs.Damage.{spoilt}
+use Rattle.rules.specs.Passes.{Outcome, decoded}
+use Rattle.rules.specs.Damage.{spoilt, wrongBits}
 use Rattle.rules.specs.Numbers as rules
-use Rattle.rules.specs.Numbers.{mostAllowed, dataBytes, frameBytes, encodeOutput, readNumber, readOutput, number, Figures, figuresOf, figuresWith, decodeSaid, decodeOutput}
+use Rattle.rules.specs.Numbers.{mostAllowed, dataBytes, frameBytes, encodeOutput, readNumber, readOutput, number, figuresOf, figuresWith, decodeSaid, decodeOutput}
+use Rattle.rules.proofs.Laws.NumberLaws.{told-success, told-both}
 use Rattle.rules.proofs.Promises.Passes.{after, PassRule}
 use Rattle.rules.proofs.Promises.Refusals.{NumberTable, GoodRow, rowOfBytes}
 use Rattle.rules.proofs.Promises.EntryRules.{Given, EncodeRule, ReadRule, decodeReasons, DecodeRule}
@@ -33,7 +34,7 @@ use Rattle.frame.specs.declared.decode.Report.{Report}
 use Rattle.frame.specs.declared.decode.Decoded.{Decoded}
 use Rattle.frame.specs.declared.decode.Decoded.the-variants.{Refused, Ended}
 use Rattle.frame.specs.Calls.{Encodes, Reads, Decodes, TakesRow}
-use Rattle.frame.specs.Said.{endingOf, reportOf, decodedOf, figures}
+use Rattle.frame.specs.Said.{endingOf, reportOf, decodedOf, figuresFor, figures}
 use Rattle.frame.proofs.SaidLaws.{figures-said}
 
 -- ---- Demand 1: every entry point answers, whatever it is given
@@ -125,11 +126,7 @@ abbrev pub TwoSpoiled : ℕ → List ℕ → List ℕ → Type 0
 TwoSpoiled n written received =
     (length received ≡ frameBytes n) × (spoilt 2 n (frameOf n written) (frameOf n received) ≤ 2)
 
--- how many code bits are wrong
-abbrev pub wrongBits : ℕ → List ℕ → List ℕ → ℕ
-wrongBits n written received = differences n (frameOf n written) (frameOf n received)
-
--- and the report's bits are the wrong ones, all of them and no other
+-- at every permitted allowance from two on: clean or repaired, in at most two passes, as many bits as were wrong, the written bytes
 abbrev pub ComesBack : ℕ → List ℕ → List ℕ → Type 0
 ComesBack n written received =
     (allowance : ℕ) (output : List ℕ) (r : Decoded) (exit : List ℕ) → 2 ≤ allowance → allowance ≤ mostAllowed
@@ -159,6 +156,12 @@ pub record Demand₃ : Type 0 where
       → (received : List ℕ) (p q : ℕ) → length received ≡ frameBytes n
       → ((i j : ℕ) → i < n → j < n → j ≢ p → j ≢ q → bitAt written (i * stride n + j) ≡ bitAt received (i * stride n + j))
       → ComesBack n written received
+  -- whatever the allowance, clean and repaired mean the written bytes, and the count is the number of wrong bits
+  pub counts :
+      (n : ℕ) (message blank written : List ℕ) → Encodes n message blank 0 written
+      → (received : List ℕ) → TwoSpoiled n written received
+      → (allowance : ℕ) (output : List ℕ) (q : Report) (exit : List ℕ) → Decodes n allowance received output (Ended q) exit
+      → (q .ending ≡ Clean) ⊎ (q .ending ≡ Repaired) → (exit ≡ written) × (q .bits ≡ wrongBits n written received)
   -- no two different written frames, spoiled so, agree
   pub apart :
       (n : ℕ) (message blank written message′ blank′ written′ : List ℕ) → Encodes n message blank 0 written
@@ -257,26 +260,32 @@ demand₂ = record {
 }
 
 -- an encoding that gave 0 is one that rules' definition accepts
-writes : (n : ℕ) (message output written : List ℕ) → Encodes n message output 0 written → Written smallCode n written
+pub writes : (n : ℕ) (message output written : List ℕ) → Encodes n message output 0 written → Written smallCode n written
 writes n message output written e = record { input = message; blank = output; accepts = sym (e .0); writes = sym (e .1) }
 
--- number 0, of an outcome: clean or repaired; passes and bits are its own
-success :
-    (o : Outcome) → number (rules.told o) ≡ 0
-    → ((reportOf o .ending ≡ Clean) ⊎ (reportOf o .ending ≡ Repaired)) × (figuresOf (rules.told o) .passes ≡ o .passes)
-    × (figuresOf (rules.told o) .bits ≡ o .bits)
-success o = go (o .ending)
-  where
-    told : passes.Ending → Figures
-    told e = figuresOf (rules.ended e (o .passes) (o .bits) (o .rows) (o .columns))
+-- the figures of a report that ended so
+figures-at : (q : Report) (e : Ending) → q .ending ≡ e → figures (Ended q) ≡ figuresFor e (q .passes) (q .bits) (q .rows) (q .columns)
+figures-at q e h = ap (λ x. figuresFor x (q .passes) (q .bits) (q .rows) (q .columns)) h
 
-    go :
-        (e : passes.Ending) → told e .number ≡ 0
-        → ((endingOf e ≡ Clean) ⊎ (endingOf e ≡ Repaired)) × (told e .passes ≡ o .passes) × (told e .bits ≡ o .bits)
-    go passes.clean z = (inl refl, refl, refl)
-    go passes.repaired z = (inr refl, refl, refl)
-    go passes.stuck z = absurd (omega (arith, z))
-    go passes.spent z = absurd (omega (arith, z))
+-- those of a success: the number is 0, and the bits are its own
+success-figures :
+    (q : Report) → (q .ending ≡ Clean) ⊎ (q .ending ≡ Repaired) → (figures (Ended q) .number ≡ 0) × (figures (Ended q) .bits ≡ q .bits)
+success-figures q (inl h) = let k = figures-at q Clean h in (ap (λ f. f .number) k, ap (λ f. f .bits) k)
+success-figures q (inr h) = let k = figures-at q Repaired h in (ap (λ f. f .number) k, ap (λ f. f .bits) k)
+
+counts-here :
+    (n : ℕ) (message blank written : List ℕ) → Encodes n message blank 0 written
+    → (received : List ℕ) → TwoSpoiled n written received
+    → (allowance : ℕ) (output : List ℕ) (q : Report) (exit : List ℕ) → Decodes n allowance received output (Ended q) exit
+    → (q .ending ≡ Clean) ⊎ (q .ending ≡ Repaired) → (exit ≡ written) × (q .bits ≡ wrongBits n written received)
+counts-here n message blank written e received s allowance output q exit c h =
+    let said : figures (Ended q) ≡ figuresOf (decodeSaid smallCode n allowance received output) =
+    ap figures (c .0) ∙ figures-said (decodeSaid smallCode n allowance received output) in
+    let z = success-figures q h in
+    let k =
+    promised-small .repairs .counts n allowance written received output (writes n message blank written e) s
+    (sym (ap (λ f. f .number) said) ∙ z .0) in
+    (c .1 ∙ k .0, sym (z .1) ∙ ap (λ f. f .bits) said ∙ k .1)
 
 back-here :
     (n : ℕ) (message blank written : List ℕ) → Encodes n message blank 0 written
@@ -295,15 +304,13 @@ back-here n message blank written e received s allowance output r exit lo hi h c
         × (exit ≡ written)
     go (yes z) =
         let o = rule .ends z in
-        let k = success (o .0) (sym (ap number (o .2)) ∙ back .zero) in
-        let few : figuresOf (rules.told (o .0)) .passes ≤ 2 = rw (o .2) at (back .few) in (
-          reportOf (o .0),
-          c .0 ∙ ap decodedOf (o .2),
-          k .0,
-          omega (arith, few, k .1),
-          sym (k .2) ∙ sym (ap (λ d. figuresOf d .bits) (o .2)) ∙ back .bits,
-          c .1 ∙ back .bytes,
-        )
+        let q : Report = reportOf (o .0) in
+        let is : r ≡ Ended q = c .0 ∙ ap decodedOf (o .2) in
+        let ending : (q .ending ≡ Clean) ⊎ (q .ending ≡ Repaired) =
+        ⊎-elim (λ x. inl (ap endingOf x)) (λ x. inr (ap endingOf x)) (told-success (o .0) (sym (ap number (o .2)) ∙ back .zero)) in
+        let few : figuresOf (rules.told (o .0)) .passes ≤ 2 = rw (o .2) at (back .few) in
+        let k = counts-here n message blank written e received s allowance output q exit (sym is ∙ c .0, c .1) ending in
+        (q, is, ending, omega (arith, few, told-both (o .0) .0), k .1, k .0)
     go (no z) = absurd (z (sym (ap number (rule .refuses z .0)) ∙ back .zero))
 
 -- neither of two places
@@ -321,6 +328,7 @@ not-named i p q h =
 pub demand₃ : Demand₃
 demand₃ = record {
   repairs = back-here;
+  counts = counts-here;
   eight-bits = λ n message blank written e received h few.
       back-here n message blank written e received (promised-small .repairs .few-bits n written received h (omega (arith, few)));
   rows-lost = λ n message blank written e received p q h kept.

@@ -27,8 +27,8 @@ pub enum Ending {
     Spent,
 }
 
-// Bits are those in which the last frame differs from the received one. Rows and columns are those left at the end that are no codewords:
-// only stuck and spent have any.
+// Bits: in how many code bits the last frame differs from the received one, also where it is not handed out.
+// Rows and columns: those left at the end that are no codewords; only stuck and spent have any.
 pub struct Report {
     pub ending: Ending,
     pub passes: usize,
@@ -87,7 +87,7 @@ fn is_stuck(pass: usize, changes: usize) -> bool
     changes == 0
 }
 
-// The passes, made in a copy of the received frame: it is left as the last pass left it.
+// The passes, made in `s`, a copy of the received frame, which is left as the last pass left it.
 fn repair(n: usize, allowance: usize, received: &[u8], s: &mut [u8]) -> Report
     requires { ⌜ Copied smallCode n (now received) (now s) × (1 ≤ allowance) × (allowance ≤ mostAllowed) ⌝ }
     ensures { λ r. ⌜ Repairs n allowance (now (received .entry)) r (now (s .exit)) ⌝ }

@@ -11,6 +11,7 @@ use Rattle.rules.specs.Bits.{frameOf, bytesOf}
 use Rattle.rules.specs.Passes.{decoded}
 use Rattle.rules.specs.Numbers.{mostAllowed, dataBytes, frameBytes, Decoded, figuresOf, decodeSaid}
 use Rattle.rules.specs.Packed.{unpackedFigures}
+use Rattle.rules.specs.Damage.{wrongBits}
 use Rattle.rules.proofs.Promises.Packing.{packs}
 use Rattle.rules.proofs.Promises.Refusals.{NumberTable}
 use Rattle.rules.proofs.Promises.EntryRules.{EncodeRule, ReadRule, DecodeRule}
@@ -19,7 +20,7 @@ use Rattle.frame.specs.declared.decode.Decoded as code
 use Rattle.frame.specs.Calls.{Encodes, Reads, Decodes}
 use Rattle.frame.specs.Said.{decodedOf, figures}
 use Rattle.frame.proofs.SaidLaws.{figures-said}
-use Rattle.frame.proofs.Demands.{TwoSpoiled, wrongBits, demand₁, demand₂}
+use Rattle.frame.proofs.Demands.{TwoSpoiled, writes, demand₁, demand₂}
 use Rattle.host.specs.Calls.{DecodesPacked}
 
 pub record HostDemands : Type 0 where
@@ -54,14 +55,19 @@ pub record HostDemands : Type 0 where
   pub library :
       (n allowance : ℕ) (received output : List ℕ) (r : ℕ) (exit : List ℕ) → DecodesPacked n allowance received output r exit
       → (q : code.Decoded) × Decodes n allowance received output q exit × (unpackedFigures r ≡ figures q)
-  -- demand 3; the bits read out are the wrong ones, all of them and no other
+  -- demand 3
   pub comes-back :
       (n : ℕ) (message blank written : List ℕ) → Encodes n message blank 0 written
       → (received : List ℕ) → TwoSpoiled n written received
       → (allowance : ℕ) (output : List ℕ) (r : ℕ) (exit : List ℕ) → 2 ≤ allowance → allowance ≤ mostAllowed
       → length output ≡ frameBytes n → DecodesPacked n allowance received output r exit
-      → (unpackedFigures r .number ≡ 0) × (unpackedFigures r .passes ≤ 2) × (unpackedFigures r .bits ≡ wrongBits n written received)
-      × (exit ≡ written)
+      → (unpackedFigures r .number ≡ 0) × (unpackedFigures r .passes ≤ 2) × (exit ≡ written)
+  -- whatever the allowance, number 0 means the written bytes, and the count is the number of wrong bits
+  pub counts :
+      (n : ℕ) (message blank written : List ℕ) → Encodes n message blank 0 written
+      → (received : List ℕ) → TwoSpoiled n written received
+      → (allowance : ℕ) (output : List ℕ) (r : ℕ) (exit : List ℕ) → DecodesPacked n allowance received output r exit
+      → unpackedFigures r .number ≡ 0 → (exit ≡ written) × (unpackedFigures r .bits ≡ wrongBits n written received)
   -- two calls alike return and leave the same; of encode and read the library's theorem says so
   pub determined :
       (n allowance : ℕ) (received output : List ℕ) (r r′ : ℕ) (exit exit′ : List ℕ) → DecodesPacked n allowance received output r exit
@@ -96,10 +102,14 @@ host-demands = record {
     read-out n allowance received output r exit e ∙ sym (figures-said (decodeSaid smallCode n allowance received output)),
   );
   comes-back = λ n message blank written w received s allowance output r exit lo hi h e.
-      let k =
-      promised-small .repairs .back n allowance written received output
-      (record { input = message; blank = blank; accepts = sym (w .0); writes = sym (w .1) }) s lo hi h in
+      let k = promised-small .repairs .back n allowance written received output (writes n message blank written w) s lo hi h in
       let is = read-out n allowance received output r exit e in
-      (ap (λ f. f .number) is ∙ k .zero, rw is (k .few), ap (λ f. f .bits) is ∙ k .bits, e .1 ∙ k .bytes);
+      (ap (λ f. f .number) is ∙ k .zero, rw is (k .few), e .1 ∙ k .bytes);
+  counts = λ n message blank written w received s allowance output r exit e z.
+      let is = read-out n allowance received output r exit e in
+      let k =
+      promised-small .repairs .counts n allowance written received output (writes n message blank written w) s
+      (sym (ap (λ f. f .number) is) ∙ z) in
+      (e .1 ∙ k .0, ap (λ f. f .bits) is ∙ k .1);
   determined = λ n allowance received output r r′ exit exit′ e e′. (e .0 ∙ sym (e′ .0), e .1 ∙ sym (e′ .1));
 }

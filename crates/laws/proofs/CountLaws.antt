@@ -1,7 +1,7 @@
 -- In how many bits two buffers differ, counted a byte at a time: by the ones in the bytes' exclusive or.
 -- Assumes nothing.
 use mathlib.Core.Path.{_≡_, refl, sym, ap, ap₂, _∙_}
-use mathlib.Core.Bool.{xor}
+use mathlib.Core.Bool.{Bool, xor}
 use mathlib.Core.List.{List}
 use Prim.Native.Nat.{ℕ, zero, suc, _+_, _*_, _-_, _/_, _%_, _^_, _≤_, _<_}
 use native.Mathlib.Nat.{div-one, mul-assoc, pow-suc}
@@ -14,15 +14,15 @@ use Rattle.algebra.specs.Xor.{_⊕_}
 use Rattle.algebra.specs.Tables.{num, total}
 use Rattle.algebra.specs.Words.{bit, differ}
 use Rattle.algebra.specs.Remainder.{isOdd}
-use Rattle.algebra.proofs.Digits.{num-le, num-odd}
-use Rattle.algebra.proofs.TableLaws.{total-none, total-last, total-next, total-split, total-most, total-ext}
-use Rattle.algebra.proofs.XorLaws.{⊕-lt, ⊕-div, odd-⊕}
+use Rattle.algebra.proofs.Digits.{num-odd}
+use Rattle.algebra.proofs.TableLaws.{total-none, total-last, total-next, total-split, total-ext, count-total, count-most}
+use Rattle.algebra.proofs.XorLaws.{⊕-lt, ⊕-bit}
+use Rattle.algebra.proofs.WordLaws.{differ-bits}
 use Rattle.rules.specs.Frames.{row}
 use Rattle.rules.specs.Bits.{rowBytes, stride, bitAt, wordOf, frameOf}
 use Rattle.rules.specs.Passes.{differences}
 use Rattle.rules.proofs.Laws.BitLaws.{half-digit, bitAt-split}
 use Rattle.rules.proofs.Laws.Shape.{frameOf-row, wordOf-length, wordOf-bit}
-use Rattle.rules.proofs.Laws.DifferenceLaws.{differ-bits}
 use Rattle.laws.specs.InPlace.{differAt}
 
 -- ---- the ones of a number
@@ -74,7 +74,8 @@ module _ (s t : List ℕ) (at : ℕ) where
 
   pub differ-most : (m : ℕ) → differAt m s t at ≤ m
   differ-most m =
-      let k = total-most 1 m apart (λ j l. num-le (xor (bitAt s (at * 8 + j)) (bitAt t (at * 8 + j)))) in omega (arith, by-bits m)
+      let p : ℕ → Bool = λ j. xor (bitAt s (at * 8 + j)) (bitAt t (at * 8 + j)) in
+      omega (arith, by-bits m, count-total m p, count-most m p)
 
 -- the first bits of one byte: the others are shifted out
 module _ (s t : List ℕ) (p spare : ℕ) (h : spare < 8) (bs : getD s p 0 < 256) (bt : getD t p 0 < 256) where
@@ -92,20 +93,17 @@ module _ (s t : List ℕ) (p spare : ℕ) (h : spare < 8) (bs : getD s p 0 < 256
       ∙ total-ext (8 - spare) (λ q. num (isOdd ((x ⊕ y) / 2 ^ (7 - q)))) (apart s t p)
       (λ q l.
       let small : q < 8 = omega arith in
-      ap num
-      (ap isOdd (⊕-div (7 - q) x y)
-      ∙ odd-⊕ (x / 2 ^ (7 - q)) (y / 2 ^ (7 - q))
-      ∙ sym (ap₂ xor (bitAt-split s p q small) (bitAt-split t p q small))))
+      ap num (⊕-bit (7 - q) x y ∙ sym (ap₂ xor (bitAt-split s p q small) (bitAt-split t p q small))))
       ∙ sym (by-bits s t p (8 - spare))
 
-  -- as the code says exclusive or
+  -- with the exclusive or that the code has
   pub differ-shifted :
       (ones (bitXor x y / 2 ^ spare) ≡ differAt (8 - spare) s t p) × (ones (bitXor x y / 2 ^ spare) ≤ 8)
   unfolding _⊕_
   differ-shifted = (differ-byte, omega (arith, differ-byte, differ-most s t p (8 - spare)))
 
 -- k bytes, and m bits more
-pub differ-more :
+differ-more :
     (s t : List ℕ) (at k m : ℕ) → differAt (k * 8 + m) s t at ≡ differAt (k * 8) s t at + differAt m s t (at + k)
 differ-more s t at k m =
     by-bits s t at (k * 8 + m)

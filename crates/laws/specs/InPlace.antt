@@ -1,4 +1,4 @@
--- A word anywhere in a buffer, by the bit that it starts at and the step from bit to bit, and bits changed in place.
+-- A word anywhere in a buffer, by the bit that it starts at and the step from bit to bit; bits changed in place, and bits that differ.
 use mathlib.Core.Bool.{Bool, cond, xor}
 use mathlib.Core.List.{List}
 use Prim.Native.Nat.{ℕ, zero, suc, _+_, _*_, _-_, _/_, _%_, _^_, _≤_, _<_}

@@ -51,6 +51,6 @@ Whole code n s = (code .shortest ≤ n) × (n ≤ code .longest) × (length s �
 abbrev pub Ready : Code → ℕ → List ℕ → Type 0
 Ready code n s = Whole code n s × (s ≡ bytesOf n (frameOf n s))
 
--- one that is ready, with the code bits of the received one
+-- one that is ready, with the code bits of a received one of that size
 abbrev pub Copied : Code → ℕ → List ℕ → List ℕ → Type 0
 Copied code n received s = Ready code n s × (length received ≡ squareBytes n) × (frameOf n s ≡ frameOf n received)

@@ -2,7 +2,7 @@
 use Prim.Native.Nat.{ℕ, _+_, _*_, _/_, _%_, _^_, _<_}
 use Rattle.rules.specs.Numbers.{Figures}
 
--- from the lowest bit up: 8 bits each for number and passes, 16 each for bits, rows and columns
+-- from the lowest bit up: 8 bits each for number and passes, 16 each for the count of bits, rows and columns
 unfoldable pub packedFigures : Figures → ℕ
 packedFigures f = f .number + f .passes * 2 ^ 8 + f .bits * 2 ^ 16 + f .rows * 2 ^ 32 + f .columns * 2 ^ 48
 

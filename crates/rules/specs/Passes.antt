@@ -28,8 +28,7 @@ differences n f h = total n (λ i. differ (row f i) (row h i))
 pub data Ending : Type 0 where
   clean repaired stuck spent : Ending
 
--- the ending, the passes made, the bits that the count gives, the rows and columns that are left as no codewords, and the frame after
--- the last pass
+-- the ending, the passes made, the count of bits, the rows and columns that are left as no codewords, and the frame after the last pass
 pub record Outcome : Type 0 where
   pub ending : Ending
   pub passes : ℕ

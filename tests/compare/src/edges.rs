@@ -60,7 +60,7 @@ pub fn bands(block: &mut Block) {
 }
 
 /// Two rows flipped, emptied or filled; two columns flipped; eight wrong bits, hard for rows and for columns; two spoiled rows with
-/// two wrong bits in each other; and the most that the promise allows.
+/// two wrong bits in each other; and as many wrong bits as the promise allows.
 pub fn just_mended(block: &mut Block) {
     let n = block.n;
     for kind in 0..6 {

@@ -44,13 +44,13 @@ fn frames(block: &mut Block) {
             decode(block, allowance, a.clone(), 0, true);
             decode(block, allowance, b.clone(), packed(0, 1, 2, 0, 0), true);
             decode(block, allowance, last.clone(), packed(0, 1, 1, 0, 0), true);
-            let [third, fourth, sixth] = match allowance {
+            let [of_c, of_d, of_ten] = match allowance {
                 1 => [packed(8, 1, 0, 2, 18), packed(8, 1, 0, 3, 3), packed(8, 1, 2, 0, 12)],
                 _ => [packed(0, 2, 36, 0, 0), packed(7, 2, 0, 3, 3), packed(0, 2, 10, 0, 0)],
             };
-            decode(block, allowance, c.clone(), third, allowance > 1);
-            decode(block, allowance, d.clone(), fourth, false);
-            decode(block, allowance, ten.clone(), sixth, allowance > 1);
+            decode(block, allowance, c.clone(), of_c, allowance > 1);
+            decode(block, allowance, d.clone(), of_d, false);
+            decode(block, allowance, ten.clone(), of_ten, allowance > 1);
         }
     }
     for place in (0..18 * 24).filter(|place| place % 24 >= 18) {

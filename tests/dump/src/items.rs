@@ -1,4 +1,4 @@
-//! Records whose report the rules write down, or that follows at once from their bench items.
+//! Records whose report the rules write down, or that follows at once from their bench items or from what is promised.
 
 use crate::records;
 use crate::text::{Dump, Line};
@@ -79,15 +79,15 @@ fn at_18() -> Vec<Line> {
     ]
 }
 
-/// The greatest counts that the promise allows, where n has two and three digits.
+/// As many wrong bits as the promise allows: counts of three and of four digits.
 fn most_bits() -> Vec<Line> {
     let counts = [(99, "repaired 2 392 0 0"), (256, "repaired 2 1020 0 0")];
-    let line = |(n, said)| {
+    let record = |(n, said)| {
         let mut frame = vec![0; square_bytes(n)];
         damage::most_of_class(n, &mut frame, [0, n - 1]);
         line(n, n, 2, &frame, said)
     };
-    counts.into_iter().map(line).collect()
+    counts.into_iter().map(record).collect()
 }
 
 fn of_ones() -> Vec<Line> {

@@ -68,7 +68,7 @@ fn coverage(score: &mut Score, total: &Tally, drawn: u64) {
     every("record numbers of 1 to 9 digits", "digits", 1, 9);
     let most = ["passes", "bits", "bad line"].map(|what| total.most(what));
     let large = most[0] >= 10 && most[1] >= 1000 && most[2] >= 1_000_000;
-    score.met("passes of 2 digits, counts of bits of 4, bad lines of 7", large, &most.map(grouped).join(", "));
+    score.met("passes of 2 digits, bits of 4, bad lines of 7", large, &most.map(grouped).join(", "));
 }
 
 /// What is not about single dumps.

@@ -1,14 +1,13 @@
 -- In how many bits two frames differ: none from itself, as many either way round, no more than by way of a third, and column by
 -- column as many as row by row.
 -- Assumes nothing.
-use mathlib.Core.Path.{_≡_, sym, ap, ap₂, _∙_}
-use mathlib.Core.Bool.{false, xor}
+use mathlib.Core.Path.{_≡_, sym, ap₂, _∙_}
+use mathlib.Core.Bool.{xor}
 use Prim.Native.Nat.{ℕ, _+_, _≤_}
-use lib.ListN.{length}
-use Rattle.algebra.specs.Tables.{num, ones, total}
-use Rattle.algebra.specs.Words.{Word, bit, _⊻_, differ}
-use Rattle.algebra.proofs.TableLaws.{tab-is, total-ext, total-add, zero-total, total-swap, count-total}
-use Rattle.algebra.proofs.WordLaws.{⊻-length, ⊻-bit, differ-self, differ-comm, differ-way}
+use Rattle.algebra.specs.Tables.{num, total}
+use Rattle.algebra.specs.Words.{differ}
+use Rattle.algebra.proofs.TableLaws.{total-ext, total-add, zero-total, total-swap}
+use Rattle.algebra.proofs.WordLaws.{differ-self, differ-comm, differ-bits, differ-way}
 use Rattle.rules.specs.Frames.{Frame, row, cell, transposed, Square}
 use Rattle.rules.specs.Passes.{differences}
 use Rattle.rules.proofs.Laws.Shape.{transposed-square, transposed-cell}
@@ -27,17 +26,7 @@ pub differences-way :
 unfolding differences
 differences-way n f g h sf sg sh =
     total-add n (λ i. differ (row f i) (row h i)) (λ i. differ (row f i) (row g i)) (λ i. differ (row g i) (row h i))
-    (λ i l. differ-way (row f i) (row g i) (row h i) (sf .1 i l ∙ sym (sg .1 i l)) (sg .1 i l ∙ sym (sh .1 i l)))
-
--- words of n bits differ where their bits do
-pub differ-bits :
-    (n : ℕ) (w u : Word) → length w ≡ n → length u ≡ n → differ w u ≡ total n (λ j. num (xor (bit w j) (bit u j)))
-unfolding bit
-differ-bits n w u lw lu =
-    ap ones
-    (sym (tab-is n (λ j. xor (bit w j) (bit u j)) (w ⊻ u) false (⊻-length w u (lw ∙ sym lu) ∙ lw)
-    (λ j h. sym (⊻-bit w u (lw ∙ sym lu) j))))
-    ∙ count-total n (λ j. xor (bit w j) (bit u j))
+    (λ i l. differ-way n (row f i) (row g i) (row h i) (sf .1 i l) (sg .1 i l) (sh .1 i l))
 
 -- frames differ in as many bits column by column as row by row
 pub differences-turned :

@@ -14,7 +14,7 @@ use Rattle.rules.specs.Words.{isIn, answer, mend}
 use Rattle.rules.specs.Frames.{isFrame, corner, rowsFirst}
 use Rattle.rules.specs.Bits.{rowBytes, wordOf, frameOf, wordBytes, bytesOf, spareOnes}
 use Rattle.rules.specs.Passes.{Ending, clean, repaired, stuck, spent, Outcome, decoded}
-use Rattle.rules.specs.Numbers.{told, handedOut, ended, number, mostAllowed, pick, notAllowed, dataBytes, frameBytes, encodeNumber, encodeOutput, readNumber, readOutput, refused, decodeRefusal, decodeSaid, decodeOutput, wordRefused, answered, wordRefusal, wordSaid, wordNumber, wordOutput, RefusalList, first, sizeRefusals, encodeRefusals, readRefusals, decodeRefusals, wordRefusals}
+use Rattle.rules.specs.Numbers.{told, handedOut, ended, number, Figures, figuresOf, mostAllowed, pick, notAllowed, dataBytes, frameBytes, encodeNumber, encodeOutput, readNumber, readOutput, refused, decodeRefusal, decodeSaid, decodeOutput, wordRefused, answered, wordRefusal, wordSaid, wordNumber, wordOutput, RefusalList, first, sizeRefusals, encodeRefusals, readRefusals, decodeRefusals, wordRefusals}
 use Rattle.rules.proofs.Laws.OneOfLaws.{OneOf, one-of-self, one-of-cons, one-of-back, one-of-front, and-both, allIn}
 
 -- ---- a list of checks
@@ -213,3 +213,26 @@ handed n input o = go (o .ending) (o .passes) (o .bits) (o .rows) (o .columns)
     go repaired p b r c = refl
     go stuck p b r c = refl
     go spent p b r c = refl
+
+-- number 0 is said of a success alone
+pub told-success : (o : Outcome) → number (told o) ≡ 0 → (o .ending ≡ clean) ⊎ (o .ending ≡ repaired)
+told-success o = go (o .ending)
+  where
+    go : (e : Ending) → number (ended e (o .passes) (o .bits) (o .rows) (o .columns)) ≡ 0 → (e ≡ clean) ⊎ (e ≡ repaired)
+    go clean z = inl refl
+    go repaired z = inr refl
+    go stuck z = absurd (omega (arith, z))
+    go spent z = absurd (omega (arith, z))
+
+-- passes and bits stand for every ending
+pub told-both : (o : Outcome) → (figuresOf (told o) .passes ≡ o .passes) × (figuresOf (told o) .bits ≡ o .bits)
+told-both o = go (o .ending)
+  where
+    figures : Ending → Figures
+    figures e = figuresOf (ended e (o .passes) (o .bits) (o .rows) (o .columns))
+
+    go : (e : Ending) → (figures e .passes ≡ o .passes) × (figures e .bits ≡ o .bits)
+    go clean = (refl, refl)
+    go repaired = (refl, refl)
+    go stuck = (refl, refl)
+    go spent = (refl, refl)

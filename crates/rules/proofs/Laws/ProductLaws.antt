@@ -3,7 +3,7 @@
 use mathlib.Core.Path.{_≡_, refl, sym, ap, ap₂, _∙_}
 use mathlib.Core.Bool.{Bool, true, false, xor, _&&_, and-true, and-false}
 use mathlib.Core.List.{List, [], _∷_}
-use Prim.Native.Nat.{ℕ, zero, suc, _-_, _/_, _^_, _≤_, _<_}
+use Prim.Native.Nat.{ℕ, zero, suc, _/_, _^_, _≤_, _<_}
 use native.Mathlib.Nat.{pow-suc, zero-div}
 use native.Mathlib.Omega.{arith}
 use lib.ListN.{length, drop}
@@ -11,7 +11,7 @@ use Rattle.algebra.specs.Xor.{_⊕_}
 use Rattle.algebra.specs.Tables.{tab, ones}
 use Rattle.algebra.specs.Words.{Word, bit, _⊻_, kept, dot}
 use Rattle.algebra.specs.Remainder.{isOdd}
-use Rattle.algebra.proofs.XorLaws.{zero-⊕, ⊕-div, odd-⊕, ⊕-self}
+use Rattle.algebra.proofs.XorLaws.{zero-⊕, ⊕-bit, ⊕-self}
 use Rattle.algebra.proofs.TableLaws.{tab-length, tab-ext, zero-count}
 use Rattle.algebra.proofs.WordLaws.{⊻-length, ⊻-bit, dot-none}
 use Rattle.rules.specs.Codes.{Code, dataBits}
@@ -35,7 +35,7 @@ digit-zero b = ap isOdd (zero-div (2 ^ b))
 
 digit-⊕ : (b x y : ℕ) → digit b (x ⊕ y) ≡ xor (digit b x) (digit b y)
 unfolding digit
-digit-⊕ b x y = ap isOdd (⊕-div b x y) ∙ odd-⊕ (x / 2 ^ b) (y / 2 ^ b)
+digit-⊕ b x y = ⊕-bit b x y
 
 digit-kept : (b : ℕ) (x : Bool) (v : ℕ) → digit b (kept x v) ≡ (digit b v && x)
 digit-kept b true v = sym (and-true (digit b v))

@@ -92,7 +92,7 @@ zeros-written = record { input = 0 ∷ []; blank = zeros 54; accepts = refl; wri
 
 no-three : ¬ RepairsFramesAt smallCode (suc (radius smallCode))
 no-three r =
-    let b : Restored 18 (frameOf 18 (zeros 54)) (frameOf 18 nine) (decoded smallCode 18 2 (frameOf 18 nine)) =
+    let b : Restored (frameOf 18 (zeros 54)) (decoded smallCode 18 2 (frameOf 18 nine)) =
     r 18 2 (omega arith) (omega arith) (omega arith) (frameOf 18 (zeros 54)) (frameOf 18 nine) (frameOf-square 18 (zeros 54))
     (frameOf-square 18 nine) (nine-rows .0) (omega (arith, nine-rows .1)) in
     ⊎-elim (λ q. apart (sym nine-stuck ∙ q)) (λ q. apart′ (sym nine-stuck ∙ q)) (b .success)

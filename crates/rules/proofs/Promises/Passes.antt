@@ -15,8 +15,8 @@ use Rattle.rules.specs.Frames.{Frame, Square, row, transposed, badRows, 
 use Rattle.rules.specs.Passes.{passRows, passColumns, pass, differences, counted, isStuck, passesFrom, decoded}
 use Rattle.rules.specs.Passes.{Ending, clean, repaired, stuck, spent, Outcome}
 use Rattle.rules.proofs.Laws.PassLaws.{decoded-clean, decoded-passes, step-repaired, step-stuck, step-on, step-spent}
-use Rattle.rules.proofs.Laws.DifferenceLaws.{differences-self}
 use Rattle.rules.proofs.Laws.PassLaws.{passRows-row, passColumns-row, passRows-square, passColumns-square}
+use Rattle.rules.proofs.Laws.DifferenceLaws.{differences-self}
 
 -- ---- The statement
 

@@ -12,7 +12,7 @@ use Rattle.rules.proofs.Promises.CountBounds.{CountsPromise, counts}
 use Rattle.rules.proofs.Promises.Refusals.{Refuses, refuses}
 use Rattle.rules.proofs.Promises.Entries.{Entries, entries}
 use Rattle.rules.proofs.Promises.Determined.{Determined, determined}
-use Rattle.rules.proofs.Promises.RepairFrames.{RepairsFrames, repairs-frames}
+use Rattle.rules.proofs.Promises.RepairFrames.{RepairsFrames, CountsDamage, repairs-frames, counts-damage}
 use Rattle.rules.proofs.Promises.Repair.{RepairPromise, repairs}
 
 pub record Promised (code : Code) : Type 0 where
@@ -29,6 +29,7 @@ pub record Promised (code : Code) : Type 0 where
   pub entries : Entries code
   pub determined : Determined code
   pub repairs-frames : RepairsFrames code
+  pub counts-damage : CountsDamage code
   pub repairs : RepairPromise code
 
 pub promised : (code : Code) (able : Mends code) → Promised code
@@ -46,6 +47,7 @@ promised code able = record {
   entries = entries code able;
   determined = determined code able;
   repairs-frames = repairs-frames code able;
+  counts-damage = counts-damage code able;
   repairs = repairs code able;
 }
 

@@ -1,17 +1,18 @@
 -- Demand 3 over bytes: a spoiled frame comes back as it was written, and no two of different frames are alike.
 -- Assumes nothing.
-use mathlib.Core.Path.{_≡_, refl, sym, ap, _∙_}
-use mathlib.Core.Logic.{_≢_, _⊎_, inl, inr}
+use mathlib.Core.Path.{_≡_, sym, ap, _∙_}
+use mathlib.Core.Logic.{_≢_, inl, inr}
 use mathlib.Core.Bool.{true, false}
 use mathlib.Core.List.{List}
 use Prim.Native.Nat.{ℕ, suc, _+_, _*_, _≤_, _<_}
+use native.Mathlib.Decide.{ℕ-discrete}
 use native.Mathlib.Omega.{arith}
 use lib.ListN.{length}
 use Rattle.rules.specs.Codes.{Code, radius, dataBits}
 use Rattle.rules.specs.Words.{isIn}
 use Rattle.rules.specs.Frames.{Frame, Square, isFrame}
 use Rattle.rules.specs.Bits.{stride, bitAt, wordOf, frameOf, bytesOf}
-use Rattle.rules.specs.Passes.{differences, Ending, clean, repaired, stuck, spent, Outcome, decoded}
+use Rattle.rules.specs.Passes.{differences, Outcome, decoded}
 use Rattle.rules.specs.Numbers.{
   mostAllowed,
   dataBytes,
@@ -26,18 +27,17 @@ use Rattle.rules.specs.Numbers.{
   decodeOutput,
   ended,
   number,
-  Figures,
   figuresOf,
 }
-use Rattle.rules.specs.Damage.{spoilt}
+use Rattle.rules.specs.Damage.{spoilt, wrongBits}
 use Rattle.rules.proofs.Laws.CodeLaws.{Sound, Mends}
 use Rattle.rules.proofs.Laws.Shape.{word-ext, frameOf-square, frameOf-row, frameOf-cell, wordOf-length, wordOf-bit}
 use Rattle.rules.proofs.Laws.PackLaws.{spare-free}
-use Rattle.rules.proofs.Laws.NumberLaws.{Sized, decode-accepts, handed, at-zero}
+use Rattle.rules.proofs.Laws.NumberLaws.{Sized, decode-accepts, decode-refused, handed, told-success, told-both, at-zero}
 use Rattle.rules.proofs.Promises.Encoding.{Encoded}
 use Rattle.rules.proofs.Promises.RoundTrip.{frame, accepted, encoded, is-written, is-frame}
 use Rattle.rules.proofs.Laws.TwoPasses.{few-wrong, rows-lost as rows-gone, columns-lost as columns-gone}
-use Rattle.rules.proofs.Promises.RepairFrames.{Restored, repairs-frames, spoiled-apart}
+use Rattle.rules.proofs.Promises.RepairFrames.{Success, Restored, repairs-frames, counts-damage, spoiled-apart}
 
 -- ---- The statement
 
@@ -57,12 +57,11 @@ SpoiledAt code rows n written received =
 abbrev pub Spoiled : Code → ℕ → List ℕ → List ℕ → Type 0
 Spoiled code = SpoiledAt code (radius code)
 
--- number 0, the written bytes, two passes at the most, and the count is the number of wrong bits
+-- number 0, the written bytes, and two passes at the most
 pub record Back (code : Code) (n allowance : ℕ) (written received output : List ℕ) : Type 0 where
   pub zero : number (decodeSaid code n allowance received output) ≡ 0
   pub bytes : decodeOutput code n allowance received output ≡ written
   pub few : figuresOf (decodeSaid code n allowance received output) .passes ≤ 2
-  pub bits : figuresOf (decodeSaid code n allowance received output) .bits ≡ differences n (frameOf n written) (frameOf n received)
 
 -- all code bits are the same
 abbrev pub Agree : ℕ → List ℕ → List ℕ → Type 0
@@ -76,6 +75,12 @@ BackAt code rows =
 
 pub record RepairPromise (code : Code) : Type 0 where
   pub back : BackAt code (radius code)
+  -- whatever the allowance, number 0 means the written bytes, and the count is the number of wrong bits
+  pub counts :
+      (n allowance : ℕ) (written received output : List ℕ) → Written code n written → Spoiled code n written received
+      → number (decodeSaid code n allowance received output) ≡ 0
+      → (decodeOutput code n allowance received output ≡ written)
+      × (figuresOf (decodeSaid code n allowance received output) .bits ≡ wrongBits n written received)
   -- what comes from different frames differs in some code bit
   pub apart :
       (n : ℕ) (written written′ received received′ : List ℕ) → Written code n written → Written code n written′ → written ≢ written′
@@ -83,7 +88,7 @@ pub record RepairPromise (code : Code) : Type 0 where
   -- fewer than (radius + 1)² wrong bits, wherever
   pub few-bits :
       (n : ℕ) (written received : List ℕ) → length received ≡ frameBytes n
-      → differences n (frameOf n written) (frameOf n received) < suc (radius code) * suc (radius code) → Spoiled code n written received
+      → wrongBits n written received < suc (radius code) * suc (radius code) → Spoiled code n written received
   -- rows lost whole, as many as the radius
   pub rows-lost :
       (n : ℕ) (written received : List ℕ) (lost : List ℕ) → length lost ≤ radius code → length received ≡ frameBytes n
@@ -97,22 +102,9 @@ pub record RepairPromise (code : Code) : Type 0 where
 
 -- ---- The proof
 
-success-zero : (o : Outcome) → (o .ending ≡ clean) ⊎ (o .ending ≡ repaired) → number (told o) ≡ 0
+success-zero : (o : Outcome) → Success o → number (told o) ≡ 0
 success-zero o (inl q) = ap (λ e. number (ended e (o .passes) (o .bits) (o .rows) (o .columns))) q
 success-zero o (inr q) = ap (λ e. number (ended e (o .passes) (o .bits) (o .rows) (o .columns))) q
-
--- passes and bits stand for every ending
-told-both : (o : Outcome) → (figuresOf (told o) .passes ≡ o .passes) × (figuresOf (told o) .bits ≡ o .bits)
-told-both o = go (o .ending)
-  where
-    figures : Ending → Figures
-    figures e = figuresOf (ended e (o .passes) (o .bits) (o .rows) (o .columns))
-
-    go : (e : Ending) → (figures e .passes ≡ o .passes) × (figures e .bits ≡ o .bits)
-    go clean = (refl, refl)
-    go repaired = (refl, refl)
-    go stuck = (refl, refl)
-    go spent = (refl, refl)
 
 module _ (code : Code) (ok : Sound code) (n : ℕ) (written : List ℕ) (w : Written code n written) where
   the-frame : Frame
@@ -143,27 +135,71 @@ module _ (code : Code) (ok : Sound code) (n : ℕ) (written : List ℕ) (w : Wri
   unfolding the-frame
   whole = made .frame
 
+-- a success with the written frame, and the count
+module _ (code : Code) (able : Mends code) (n a : ℕ) (written received output : List ℕ) (w : Written code n written) (s : Spoiled code n written received) where
+  f : Frame
+  f = the-frame code (able .sound) n written w
+
+  abbrev o : Outcome
+  o = decoded code n a (frameOf n received)
+
+  abbrev r : ℕ
+  r = decodeRefusal code n a received output
+
+  counts-here :
+      r ≡ 0 → number (told o) ≡ 0
+      → (decodeOutput code n a received output ≡ written) × (figuresOf (told o) .bits ≡ wrongBits n written received)
+  unfolding decodeOutput f
+  counts-here z e =
+      let k = sized code (able .sound) n written w in
+      let b =
+      counts-damage code able n a (k .from) (k .upTo) (decode-accepts code n a received output .0 z .1 .0) f (frameOf n received)
+      (square code (able .sound) n written w) (frameOf-square n received) (whole code (able .sound) n written w)
+      (in-class code (able .sound) n written w received s) (told-success o e) in (
+        at-zero r (handedOut n received o) output z
+            ∙ handed n received o
+            ∙ at-zero (number (told o)) (bytesOf n (o .last)) received e
+            ∙ ap (bytesOf n) (b .0)
+            ∙ sym (is-bytes code (able .sound) n written w),
+        told-both o .1 ∙ b .1 ∙ ap (λ x. differences n x (frameOf n received)) (sym (is-the-frame code (able .sound) n written w)),
+      )
+
+  counts-said :
+      number (decodeSaid code n a received output) ≡ 0
+      → (decodeOutput code n a received output ≡ written)
+      × (figuresOf (decodeSaid code n a received output) .bits ≡ wrongBits n written received)
+  unfolding decodeSaid
+  counts-said e = go (ℕ-discrete r 0)
+    where
+      go :
+          Dec (r ≡ 0)
+          → (decodeOutput code n a received output ≡ written)
+          × (figuresOf (decodeSaid code n a received output) .bits ≡ wrongBits n written received)
+      go (yes z) =
+          let said : decodeSaid code n a received output ≡ told o = at-zero r (told o) (refused r) z in
+          let k = counts-here z (sym (ap number said) ∙ e) in
+          (k .0, ap (λ d. figuresOf d .bits) said ∙ k .1)
+      go (no z) = absurd (z (sym (ap number (decode-refused code n a received output z .0)) ∙ e))
+
 back-here : (code : Code) (able : Mends code) → BackAt code (radius code)
-unfolding decodeSaid decodeOutput
+unfolding decodeSaid
 back-here code able n a written received output w s lo hi lent =
-    let f : Frame = the-frame code (able .sound) n written w in
-    let o : Outcome = decoded code n a (frameOf n received) in
-    let r : ℕ = decodeRefusal code n a received output in
+    let g : Frame = the-frame code (able .sound) n written w in
+    let p : Outcome = decoded code n a (frameOf n received) in
+    let q : ℕ = decodeRefusal code n a received output in
     let k = sized code (able .sound) n written w in
-    let z : r ≡ 0 =
+    let z : q ≡ 0 =
     decode-accepts code n a received output .1
     (record { from = k .from; upTo = k .upTo; taken = s .0; lent = lent }, (omega arith, hi)) in
-    let b : Restored n f (frameOf n received) o =
-    repairs-frames code able n a (k .from) (k .upTo) lo f (frameOf n received) (square code (able .sound) n written w) (frameOf-square n received)
+    let b : Restored g p =
+    repairs-frames code able n a (k .from) (k .upTo) lo g (frameOf n received) (square code (able .sound) n written w) (frameOf-square n received)
     (whole code (able .sound) n written w) (in-class code (able .sound) n written w received s) in
-    let e : number (told o) ≡ 0 = success-zero o (b .success) in
-    let said : decodeSaid code n a received output ≡ told o = at-zero r (told o) (refused r) z in
+    let e : number (told p) ≡ 0 = success-zero p (b .success) in
+    let said : decodeSaid code n a received output ≡ told p = at-zero q (told p) (refused q) z in
     record {
       zero = ap number said ∙ e;
-      bytes = at-zero r (handedOut n received o) output z ∙ handed n received o ∙ at-zero (number (told o)) (bytesOf n (o .last)) received e ∙ ap (bytesOf n) (b .frame) ∙ sym (is-bytes code (able .sound) n written w);
-      few = rw (ap (λ d. figuresOf d .passes) said ∙ told-both o .0) (b .few);
-      bits = ap (λ d. figuresOf d .bits) said ∙ told-both o .1 ∙ b .bits
-          ∙ ap (λ x. differences n x (frameOf n received)) (sym (is-the-frame code (able .sound) n written w));
+      bytes = counts-here code able n a written received output w s z e .0;
+      few = rw (ap (λ d. figuresOf d .passes) said ∙ told-both p .0) (b .few);
     }
 
 apart-here :
@@ -190,6 +226,7 @@ pub repairs : (code : Code) (able : Mends code) → RepairPromise code
 repairs code able =
     record {
       back = back-here code able;
+      counts = counts-said code able;
       apart = apart-here code able;
       few-bits = λ n written received long d. (long, few-wrong (radius code) n (frameOf n written) (frameOf n received) d);
       rows-lost = λ n written received lost few long same. (

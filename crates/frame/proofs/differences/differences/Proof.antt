@@ -52,9 +52,11 @@ loop-less c = search needs
 loop-again : tie.Need-loop-again Inv-loop μ-loop
 loop-again c =
     let l = c .before .before .loop in
-    let r = c .row-differences .ensures in
+    let r = c .row-differences in
     let a = c .before .before .before .before .before .before .args in
-    (search needs, omega arith, ap (λ m. m + c .row-differences .result) (l .inv .2) ∙ rows-more (a .n) (a .s .now) (a .t .now) (l .i) _ _ (c .before .loop-test .taken) (c .before .before .before .row-bytes .ensures) (r .0))
+    let more =
+    rows-more (a .n) (a .s .now) (a .t .now) (l .i) _ _ (c .before .loop-test .taken) (c .before .before .before .row-bytes .ensures) (r .ensures .0) in
+    (search needs, omega (arith, r .ensures .1), ap (λ m. m + r .result) (l .inv .2) ∙ more)
 
 returns : tie.Need-returns Inv-loop μ-loop
 returns c =

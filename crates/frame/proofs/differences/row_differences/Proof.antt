@@ -44,17 +44,17 @@ loop-again c =
     let r = c .byte-differences .ensures in
     (search needs, search needs, bytes-more _ _ _ _ 8 _ _ _ (c .before .before .loop .inv .2) (r .0) (omega arith))
 
+mul-spare : tie.Need-mul-spare Inv-loop μ-loop
+mul-spare c = search needs
+
+add-spare : tie.Need-add-spare Inv-loop μ-loop
+add-spare c = search needs
+
+sub-spare : tie.Need-sub-spare Inv-loop μ-loop
+sub-spare c = search needs
+
 add-byte-differences-2 : tie.Need-add-byte-differences-2 Inv-loop μ-loop
 add-byte-differences-2 c = search needs
-
-mul-byte-differences : tie.Need-mul-byte-differences Inv-loop μ-loop
-mul-byte-differences c = search needs
-
-add-byte-differences-3 : tie.Need-add-byte-differences-3 Inv-loop μ-loop
-add-byte-differences-3 c = search needs
-
-sub-byte-differences : tie.Need-sub-byte-differences Inv-loop μ-loop
-sub-byte-differences c = search needs
 
 byte-differences-requires-2 : tie.Need-byte-differences-requires-2 Inv-loop μ-loop
 byte-differences-requires-2 c κs = search needs
@@ -88,10 +88,10 @@ row-differences-spec =
     add-b
     loop-less
     loop-again
+    mul-spare
+    add-spare
+    sub-spare
     add-byte-differences-2
-    mul-byte-differences
-    add-byte-differences-3
-    sub-byte-differences
     byte-differences-requires-2
     add-result
     returns)
