@@ -1,9 +1,9 @@
 // Decoding: passes over rows and columns in turn, in the lent output.
-use crate::corner::copy_corner;
-use crate::differences::differences;
-use crate::sizes::square_bytes;
 use crate::words::bad;
 use crate::words::mend_word;
+use square::corner::copy_corner;
+use square::differences::differences;
+use square::sizes::square_bytes;
 use word::numbers::BAD_ALLOWANCE;
 use word::numbers::BAD_INPUT_LENGTH;
 use word::numbers::BAD_N;

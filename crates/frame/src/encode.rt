@@ -1,8 +1,8 @@
 // Encoding.
-use crate::corner::copy_corner;
-use crate::corner::is_packed;
-use crate::sizes::square_bytes;
 use crate::words::encode_words;
+use square::corner::copy_corner;
+use square::corner::is_packed;
+use square::sizes::square_bytes;
 use word::numbers::BAD_INPUT_LENGTH;
 use word::numbers::BAD_N;
 use word::numbers::BAD_OUTPUT_LENGTH;

@@ -1,7 +1,7 @@
 // Reading the data back.
-use crate::corner::copy_corner;
-use crate::sizes::square_bytes;
 use crate::words::bad;
+use square::corner::copy_corner;
+use square::sizes::square_bytes;
 use word::numbers::BAD_INPUT_LENGTH;
 use word::numbers::BAD_N;
 use word::numbers::BAD_OUTPUT_LENGTH;

@@ -1,5 +1,5 @@
 // One row of a frame.
-use crate::sizes::square_bytes;
+use square::sizes::square_bytes;
 use word::sizes::outside;
 use word::sizes::row_bytes;
 ghost use mathlib.Core.Path.{_≡_};

@@ -1,4 +1,4 @@
--- `frame::corner::corner_byte` meets its contract: row i lies inside the square.
+-- `corner::corner_byte` meets its contract: row i lies inside the square.
 -- Assumes nothing.
 use Prim.Native.Nat.{_*_, _+_, _≤_}
 use native.Mathlib.Omega.{arith}
@@ -6,8 +6,8 @@ use borrow.Author.Needs.{needs}
 use Rattle.rules.specs.Bits.{squareBytes}
 use Rattle.laws.specs.InPlace.{mostBytes}
 use Rattle.laws.proofs.CornerLaws.{row-fits}
-use Rattle.frame.proofs.corner.corner_byte.Statement.{statement}
-use Rattle.frame.proofs.corner.corner_byte.Tie as tie
+use Rattle.square.proofs.corner.corner_byte.Statement.{statement}
+use Rattle.square.proofs.corner.corner_byte.Tie as tie
 
 fits :
     (c : tie.After-row-bytes) →

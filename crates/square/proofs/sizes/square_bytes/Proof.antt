@@ -1,12 +1,12 @@
--- `frame::sizes::square_bytes` meets its contract: the product is that of the longest frame at most.
+-- `sizes::square_bytes` meets its contract: the product is that of the longest frame at most.
 -- Assumes nothing.
 use mathlib.Core.Path.{ap}
 use Prim.Native.Nat.{ℕ, _*_}
 use native.Mathlib.Omega.{arith}
 use borrow.Author.Needs.{needs}
 use Rattle.laws.proofs.CornerLaws.{square-small}
-use Rattle.frame.proofs.sizes.square_bytes.Statement.{statement}
-use Rattle.frame.proofs.sizes.square_bytes.Tie as tie
+use Rattle.square.proofs.sizes.square_bytes.Statement.{statement}
+use Rattle.square.proofs.sizes.square_bytes.Tie as tie
 
 row-bytes-requires : tie.Need-row-bytes-requires
 row-bytes-requires c κs = search needs

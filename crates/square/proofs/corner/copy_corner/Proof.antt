@@ -1,4 +1,4 @@
--- `frame::corner::copy_corner` meets its contract. The loop's invariant: the first p bytes are those wanted.
+-- `corner::copy_corner` meets its contract. The loop's invariant: the first p bytes are those wanted.
 -- Assumes nothing.
 use Prim.Native.Nat.{_-_}
 use native.Mathlib.Omega.{arith}
@@ -8,8 +8,8 @@ use Rattle.rules.proofs.Laws.PackLaws.{bytesOf-length}
 use Rattle.laws.specs.Turns.{cornered}
 use Rattle.laws.proofs.CopyLaws.{Agreeing, agreeing-none, agreeing-set, agreeing-all}
 use Rattle.laws.proofs.CornerLaws.{place-small, corner-at}
-use Rattle.frame.proofs.corner.copy_corner.Statement.{statement}
-use Rattle.frame.proofs.corner.copy_corner.Tie as tie
+use Rattle.square.proofs.corner.copy_corner.Statement.{statement}
+use Rattle.square.proofs.corner.copy_corner.Tie as tie
 
 abbrev Inv-loop : tie.InvT-loop
 Inv-loop m n from k to₀ wide p₀ p-end to p = Agreeing (squareBytes k) p-end p to (bytesOf k (cornered m k (frameOf n from)))

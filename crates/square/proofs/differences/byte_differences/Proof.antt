@@ -9,8 +9,8 @@ use lib.Count.{ones}
 use lib.ListN.{getD}
 use Rattle.laws.specs.InPlace.{differAt}
 use Rattle.laws.proofs.CountLaws.{differ-shifted}
-use Rattle.frame.proofs.differences.byte_differences.Statement.{statement}
-use Rattle.frame.proofs.differences.byte_differences.Tie as tie
+use Rattle.square.proofs.differences.byte_differences.Statement.{statement}
+use Rattle.square.proofs.differences.byte_differences.Tie as tie
 
 count-is :
     (c : tie.After-shared-slice-known2)

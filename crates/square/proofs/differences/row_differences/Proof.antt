@@ -6,8 +6,8 @@ use native.Mathlib.Omega.{arith}
 use borrow.Author.Needs.{needs}
 use Rattle.laws.specs.InPlace.{differAt}
 use Rattle.laws.proofs.CountLaws.{differ-none, differ-most, bytes-more}
-use Rattle.frame.proofs.differences.row_differences.Statement.{statement}
-use Rattle.frame.proofs.differences.row_differences.Tie as tie
+use Rattle.square.proofs.differences.row_differences.Statement.{statement}
+use Rattle.square.proofs.differences.row_differences.Tie as tie
 
 abbrev Inv-loop : tie.InvT-loop
 Inv-loop n s t at last found₀ b₀ found b = (b ≤ last) × (found ≤ b * 8) × (found ≡ differAt (b * 8) s t at)

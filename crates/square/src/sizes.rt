@@ -6,7 +6,7 @@ ghost use Rattle.rules.specs.Codes.{lengthLimit};
 ghost use Rattle.rules.specs.Bits.{squareBytes};
 
 // n rows of n bits.
-pub(crate) fn square_bytes(n: usize) -> usize
+pub fn square_bytes(n: usize) -> usize
     requires { ⌜ n ≤ lengthLimit ⌝ }
     ensures { λ r. ⌜ r ≡ squareBytes n ⌝ }
 {

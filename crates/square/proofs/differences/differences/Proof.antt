@@ -9,8 +9,8 @@ use Rattle.rules.specs.Bits.{squareBytes}
 use Rattle.laws.specs.InPlace.{mostBytes}
 use Rattle.laws.proofs.CornerLaws.{row-fits}
 use Rattle.laws.proofs.CountLaws.{differRows, rows-none, rows-more, rows-all}
-use Rattle.frame.proofs.differences.differences.Statement.{statement}
-use Rattle.frame.proofs.differences.differences.Tie as tie
+use Rattle.square.proofs.differences.differences.Statement.{statement}
+use Rattle.square.proofs.differences.differences.Tie as tie
 
 abbrev Inv-loop : tie.InvT-loop
 Inv-loop n s t wide found₀ i₀ found i = (i ≤ n) × (found ≤ lengthLimit * i) × (found ≡ differRows n s t i)

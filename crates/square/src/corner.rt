@@ -21,7 +21,7 @@ fn corner_byte(m: usize, n: usize, s: &[u8], i: usize, b: usize) -> u8
 }
 
 // The upper left corner of m rows and m columns, taken from a square of n rows, put into one of k; all else there is zero.
-pub(crate) fn copy_corner(m: usize, n: usize, from: &[u8], k: usize, to: &mut [u8])
+pub fn copy_corner(m: usize, n: usize, from: &[u8], k: usize, to: &mut [u8])
     requires { ⌜ (1 ≤ m) × (m ≤ n) × (m ≤ k) × (n ≤ lengthLimit) × (k ≤ lengthLimit) ⌝ }
     requires { ⌜ (length (now from) ≡ squareBytes n) × (length (now to) ≡ squareBytes k) ⌝ }
     ensures { λ _. ⌜ now (to .exit) ≡ bytesOf k (cornered m k (frameOf n (now (from .entry)))) ⌝ }
@@ -33,7 +33,7 @@ pub(crate) fn copy_corner(m: usize, n: usize, from: &[u8], k: usize, to: &mut [u
 }
 
 // Whether every spare bit of a square is zero: each byte is what its row's own bits make it.
-pub(crate) fn is_packed(n: usize, s: &[u8]) -> bool
+pub fn is_packed(n: usize, s: &[u8]) -> bool
     requires { ⌜ (1 ≤ n) × (n ≤ lengthLimit) × (length (now s) ≡ squareBytes n) ⌝ }
     ensures { λ r. ⌜ r ≡ eqb (spareOnes n (now (s .entry))) 0 ⌝ }
 {

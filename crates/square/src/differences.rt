@@ -32,7 +32,7 @@ fn row_differences(n: usize, s: &[u8], t: &[u8], at: usize) -> usize
 }
 
 // How many code bits of n rows of n bits differ.
-pub(crate) fn differences(n: usize, s: &[u8], t: &[u8]) -> usize
+pub fn differences(n: usize, s: &[u8], t: &[u8]) -> usize
     requires { ⌜ (1 ≤ n) × (n ≤ lengthLimit) × (length (now s) ≡ squareBytes n) × (length (now t) ≡ squareBytes n) ⌝ }
     ensures { λ r. ⌜ r ≡ differences n (frameOf n (now (s .entry))) (frameOf n (now (t .entry))) ⌝ }
 {

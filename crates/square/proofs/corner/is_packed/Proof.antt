@@ -1,4 +1,4 @@
--- `frame::corner::is_packed` meets its contract. The loop's invariant: the first p bytes are what their rows' own bits make them.
+-- `corner::is_packed` meets its contract. The loop's invariant: the first p bytes are what their rows' own bits make them.
 -- Assumes nothing.
 use mathlib.Core.Path.{_≡_, sym, _∙_}
 use Prim.Native.Nat.{_-_}
@@ -10,8 +10,8 @@ use Rattle.rules.proofs.Laws.PackLaws.{bytesOf-length}
 use Rattle.laws.specs.Turns.{cornered}
 use Rattle.laws.proofs.CopyLaws.{Agreeing, agreeing-none, agreeing-more, agreeing-all}
 use Rattle.laws.proofs.CornerLaws.{place-small, corner-at, packed-yes, packed-no}
-use Rattle.frame.proofs.corner.is_packed.Statement.{statement}
-use Rattle.frame.proofs.corner.is_packed.Tie as tie
+use Rattle.square.proofs.corner.is_packed.Statement.{statement}
+use Rattle.square.proofs.corner.is_packed.Tie as tie
 
 abbrev Inv-loop : tie.InvT-loop
 Inv-loop n s wide p₀ p-end p = Agreeing (squareBytes n) p-end p s (bytesOf n (cornered n n (frameOf n s)))
