@@ -106,7 +106,7 @@ static inline uint32_t gazenohyri_passes(uint64_t answer)
     return (uint32_t)(answer >> 8 & 0xFF);
 }
 
-/* How many code bits are not as they were received when the last pass is made: a bit that was flipped and flipped back is not counted.
+/* How many code bits are, after the last pass, not as they were received: a bit that was flipped and flipped back is not counted.
  * At number 0 the output differs from the input in so many code bits; within the promise above these are the wrong ones. For 7 and
  * 8 it counts in a frame that is not handed out. 0 where the frame was clean, and where the number is 1 to 4. */
 static inline uint32_t gazenohyri_bits(uint64_t answer)

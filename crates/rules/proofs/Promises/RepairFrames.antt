@@ -23,6 +23,7 @@ use Rattle.rules.proofs.Laws.TwoPasses.{rowsMended, rows-left, two-pass
 
 -- ---- The statement
 
+-- clean or repaired
 abbrev pub Success : Outcome → Type 0
 Success o = (o .ending ≡ clean) ⊎ (o .ending ≡ repaired)
 
