@@ -1,17 +1,17 @@
 -- Lists made by a rule: read, compared and counted entry by entry.
 -- Assumes nothing.
 use mathlib.Core.Path.{_≡_, refl, sym, ap, ap₂, _∙_}
-use mathlib.Core.Logic.{_≢_}
-use mathlib.Core.Bool.{Bool, true, false}
+use mathlib.Core.Logic.{_≢_, _↔_}
+use mathlib.Core.Bool.{Bool, true, false, _&&_, and-eq-true-iff}
 use mathlib.Core.List.{List, [], _∷_}
 use Prim.Native.Nat.{ℕ, zero, suc, _+_, _*_, _≤_, _<_}
 use native.Mathlib.Nat.{mul-zero, mul-add, mul-suc, not-suc-le-zero, le-of-suc-le-suc}
-use native.Mathlib.Decide.{ℕ-discrete}
+use native.Mathlib.Decide.{ℕ-discrete, decLt}
 use native.Mathlib.Numerals.{add-one}
 use native.Mathlib.Omega.{arith}
 use lib.ListN.{length, getD, List·getD-eq-default}
 use lib.Seq.{ext-getD}
-use Rattle.algebra.specs.Tables.{tabFrom, tab, num, ones, sum, count, total}
+use Rattle.algebra.specs.Tables.{tabFrom, tab, num, ones, sum, count, every, total}
 
 tabFrom-suc {ℓ} : {A : Type ℓ} (a n : ℕ) (f : ℕ → A) → tabFrom (suc a) n f ≡ tabFrom a n (λ i. f (suc i))
 unfolding tabFrom
@@ -165,6 +165,15 @@ total-some (suc n) f h = go (ℕ-discrete (f 0) 0) (total-some n (λ i. f (suc i
     go (no z) later = (0, omega arith, z)
 
 -- and a count that is not zero has counted something
+-- a total below n has a term that is zero
+pub total-few : (n : ℕ) (f : ℕ → ℕ) → total n f < n → (i : ℕ) × (i < n) × (f i ≡ 0)
+total-few zero f h = absurd (omega arith)
+total-few (suc n) f h = go (total-few n f) (ℕ-discrete (f n) 0)
+  where
+    go : (total n f < n → (i : ℕ) × (i < n) × (f i ≡ 0)) → Dec (f n ≡ 0) → (i : ℕ) × (i < suc n) × (f i ≡ 0)
+    go before (yes z) = (n, omega arith, z)
+    go before (no z) = let k = before (omega (arith, total-last n f, z, h)) in (k .0, omega (arith, k .1), k .2)
+
 pub count-some : (n : ℕ) (p : ℕ → Bool) → count n p ≢ 0 → (i : ℕ) × (i < n) × (p i ≡ true)
 count-some n p h =
     let t = total-some n (λ i. num (p i)) (λ e. h (count-total n p ∙ e)) in (t .0, t .1, go (p (t .0)) (t .2))
@@ -199,3 +208,15 @@ total-swap (suc n) m c =
     ∙ ap (λ x. x + total m (λ j. c n j)) (total-swap n m c)
     ∙ sym (total-plus m (λ j. total n (λ i. c i j)) (λ j. c n j))
     ∙ total-ext m (λ j. total n (λ i. c i j) + c n j) (λ j. total (suc n) (λ i. c i j)) (λ j h. sym (total-last n (λ i. c i j)))
+
+pub every-each : (n : ℕ) (p : ℕ → Bool) → (every n p ≡ true) ↔ ((i : ℕ) → i < n → p i ≡ true)
+unfolding every
+every-each zero p = (λ h i l. absurd (omega arith), λ h. refl)
+every-each (suc n) p = (
+  λ h i l. let t = and-eq-true-iff (p n) (every n p) .0 h in go i (t .0) (every-each n p .0 (t .1)) (decLt i n) l,
+  λ h. and-eq-true-iff (p n) (every n p) .1 (h n (omega arith), every-each n p .1 (λ i l. h i (omega arith))),
+)
+  where
+    go : (i : ℕ) → p n ≡ true → ((i : ℕ) → i < n → p i ≡ true) → Dec (i < n) → i < suc n → p i ≡ true
+    go i last before (yes l) m = before i l
+    go i last before (no l) m = let e : i ≡ n = omega (arith, l) in ap p e ∙ last

@@ -1,5 +1,5 @@
 -- Lists made by a rule, and what is counted over them.
-use mathlib.Core.Bool.{Bool, true, false}
+use mathlib.Core.Bool.{Bool, true, false, _&&_}
 use mathlib.Core.List.{List, [], _∷_}
 use Prim.Native.Nat.{ℕ, zero, suc, _+_}
 
@@ -29,6 +29,11 @@ sum (x ∷ xs) = x + sum xs
 -- how many i below n pass the test
 abbrev pub count : ℕ → (ℕ → Bool) → ℕ
 count n p = ones (tab n p)
+
+-- every i below n passes the test
+unfoldable pub every : ℕ → (ℕ → Bool) → Bool
+every zero p = true
+every (suc n) p = p n && every n p
 
 -- f 0 + f 1 + .. + f (n − 1)
 abbrev pub total : ℕ → (ℕ → ℕ) → ℕ

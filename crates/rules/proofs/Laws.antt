@@ -15,6 +15,7 @@ pub mod NearestLaws
 pub mod EncodeWordLaws
 -- Frames and passes
 pub mod FrameLaws
+pub mod ErasedLaws
 pub mod ProductLaws
 pub mod PassLaws
 pub mod DifferenceLaws

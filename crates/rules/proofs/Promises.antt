@@ -21,3 +21,4 @@ pub mod Limit
 pub mod Promised
 -- The bench items
 pub mod Bench
+pub mod Erased

@@ -5,7 +5,7 @@ use mathlib.Core.List.{List, []}
 use Prim.Native.Nat.{ℕ, _+_, _<_}
 use lib.Dec.{eqb}
 use lib.ListN.{length, getD}
-use Rattle.algebra.specs.Tables.{tab, count}
+use Rattle.algebra.specs.Tables.{tab, count, every}
 use Rattle.algebra.specs.Words.{Word, bit}
 use Rattle.rules.specs.Codes.{Code, dataBits}
 use Rattle.rules.specs.Words.{isCodeword, encodeWord}
@@ -40,6 +40,10 @@ badColumns code n f = badRows code n (transposed n f)
 -- every row is a codeword, and so is every column
 unfoldable pub isFrame : Code → ℕ → Frame → Bool
 isFrame code n f = eqb (badRows code n f + badColumns code n f) 0
+
+-- every bit is one: so does a block read that was erased and not written since
+unfoldable pub isErased : ℕ → Frame → Bool
+isErased n f = every n (λ i. every n (λ j. cell f i j))
 
 -- the upper left k × k bits; those of a frame are its data
 unfoldable pub corner : ℕ → Frame → Frame

@@ -8,7 +8,7 @@ use lib.Dec.{eqb, leb, ltb}
 use lib.ListN.{length, take, drop}
 use Rattle.rules.specs.Codes.{Code, dataBits}
 use Rattle.rules.specs.Words.{answer, mend}
-use Rattle.rules.specs.Frames.{corner, isFrame, rowsFirst}
+use Rattle.rules.specs.Frames.{Frame, corner, isFrame, isErased, rowsFirst}
 use Rattle.rules.specs.Bits.{rowBytes, squareBytes, wordOf, frameOf, wordBytes, bytesOf, spareOnes}
 use Rattle.rules.specs.Passes.{Ending, clean, repaired, stuck, spent, Outcome, decoded}
 
@@ -55,10 +55,15 @@ sizeRefusals code n input takes output gives later = (outside code n, 1) ∷ (no
 
 -- ---- Encoding: the number, and the output
 
--- number 5: a spare bit of the data is set
+-- the frame of the data in a buffer
+abbrev pub frameFor : Code → ℕ → List ℕ → Frame
+frameFor code n input = rowsFirst code n (frameOf (dataBits code n) input)
+
+-- number 5: a spare bit of the data is set. Number 10: their frame would read as erased
 abbrev pub encodeRefusals : Code → ℕ → List ℕ → List ℕ → RefusalList
 encodeRefusals code n input output =
-    sizeRefusals code n input (dataBytes code n) output (frameBytes n) ((not (eqb (spareOnes (dataBits code n) input) 0), 5) ∷ [])
+    sizeRefusals code n input (dataBytes code n) output (frameBytes n)
+    ((not (eqb (spareOnes (dataBits code n) input) 0), 5) ∷ (isErased n (frameFor code n input), 10) ∷ [])
 
 -- the number that encoding gives
 unfoldable pub encodeNumber : Code → ℕ → List ℕ → List ℕ → ℕ
@@ -67,14 +72,15 @@ encodeNumber code n input output = first (encodeRefusals code n input output)
 -- the frame, spare bits zero; unchanged where it is refused
 unfoldable pub encodeOutput : Code → ℕ → List ℕ → List ℕ → List ℕ
 encodeOutput code n input output =
-    pick (eqb (encodeNumber code n input output) 0) (bytesOf n (rowsFirst code n (frameOf (dataBits code n) input))) output
+    pick (eqb (encodeNumber code n input output) 0) (bytesOf n (frameFor code n input)) output
 
 -- ---- Reading data: the number, and the output
 
--- number 6: the code bits are no frame
+-- number 10: the code bits are all ones. Number 6: they are no frame
 abbrev pub readRefusals : Code → ℕ → List ℕ → List ℕ → RefusalList
 readRefusals code n input output =
-    sizeRefusals code n input (frameBytes n) output (dataBytes code n) ((not (isFrame code n (frameOf n input)), 6) ∷ [])
+    sizeRefusals code n input (frameBytes n) output (dataBytes code n)
+    ((isErased n (frameOf n input), 10) ∷ (not (isFrame code n (frameOf n input)), 6) ∷ [])
 
 -- the number that reading gives
 unfoldable pub readNumber : Code → ℕ → List ℕ → List ℕ → ℕ
@@ -90,15 +96,16 @@ readOutput code n input output =
 -- what decoding says
 pub data Decoded : Type 0 where
   refused : ℕ → Decoded
+  erased : Decoded
   -- passes, bits, rows, columns
   ended : Ending → ℕ → ℕ → ℕ → ℕ → Decoded
 
--- numbers 1 to 4
+-- numbers 1 to 4, and 10: the code bits are all ones
 abbrev pub decodeRefusals : Code → ℕ → ℕ → List ℕ → List ℕ → RefusalList
 decodeRefusals code n allowance input output =
-    sizeRefusals code n input (frameBytes n) output (frameBytes n) ((notAllowed allowance, 4) ∷ [])
+    sizeRefusals code n input (frameBytes n) output (frameBytes n) ((notAllowed allowance, 4) ∷ (isErased n (frameOf n input), 10) ∷ [])
 
--- the number of the refusal; 0 where the passes are made
+-- the number of the refusal, or of erased; 0 where the received bits are decoded
 unfoldable pub decodeRefusal : Code → ℕ → ℕ → List ℕ → List ℕ → ℕ
 decodeRefusal code n allowance input output = first (decodeRefusals code n allowance input output)
 
@@ -106,18 +113,22 @@ decodeRefusal code n allowance input output = first (decodeRefusals code n allow
 abbrev pub told : Outcome → Decoded
 told o = ended (o .ending) (o .passes) (o .bits) (o .rows) (o .columns)
 
--- the refusal, or what is said of the outcome
+-- what is said with such a number
+abbrev pub undecoded : ℕ → Decoded
+undecoded r = pick (eqb r 10) erased (refused r)
+
+-- that, or what is said of the outcome
 unfoldable pub decodeSaid : Code → ℕ → ℕ → List ℕ → List ℕ → Decoded
 decodeSaid code n allowance input output =
     let r : ℕ = decodeRefusal code n allowance input output in
-    pick (eqb r 0) (told (decoded code n allowance (frameOf n input))) (refused r)
+    pick (eqb r 0) (told (decoded code n allowance (frameOf n input))) (undecoded r)
 
 -- the frame where that came out, spare bits zero; else the bytes that were received
 abbrev pub handedOut : ℕ → List ℕ → Outcome → List ℕ
 handedOut n input o =
     elim (o .ending) [ clean ↦ bytesOf n (o .last) | repaired ↦ bytesOf n (o .last) | stuck ↦ input | spent ↦ input ]
 
--- what is handed out; unchanged where it is refused
+-- what is handed out; unchanged where the bits are not decoded
 unfoldable pub decodeOutput : Code → ℕ → ℕ → List ℕ → List ℕ → List ℕ
 decodeOutput code n allowance input output =
     pick (eqb (decodeRefusal code n allowance input output) 0) (handedOut n input (decoded code n allowance (frameOf n input))) output
@@ -130,9 +141,10 @@ pub record Figures : Type 0 where
   pub rows : ℕ
   pub columns : ℕ
 
--- a refusal has no values, and a success no rows and columns
+-- a refusal has no values, nor has erased, and a success no rows and columns
 abbrev pub figuresOf : Decoded → Figures
 figuresOf (refused r) = record { number = r; passes = 0; bits = 0; rows = 0; columns = 0 }
+figuresOf erased = record { number = 10; passes = 0; bits = 0; rows = 0; columns = 0 }
 figuresOf (ended clean p b r c) = record { number = 0; passes = p; bits = b; rows = 0; columns = 0 }
 figuresOf (ended repaired p b r c) = record { number = 0; passes = p; bits = b; rows = 0; columns = 0 }
 figuresOf (ended stuck p b r c) = record { number = 7; passes = p; bits = b; rows = r; columns = c }

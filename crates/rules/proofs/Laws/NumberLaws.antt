@@ -1,6 +1,6 @@
 -- The checks of the entry points: when each accepts, which numbers can occur, and what is said and written by the number.
 -- Assumes nothing.
-use mathlib.Core.Path.{_≡_, refl, ap}
+use mathlib.Core.Path.{_≡_, refl, sym, ap}
 use mathlib.Core.Logic.{_≢_, _↔_, _⊎_, inl, inr, Iff·trans, Iff·rfl, Iff·and}
 use mathlib.Core.Bool.{Bool, true, false, not, _&&_, true≢false}
 use mathlib.Core.List.{List, [], _∷_, map}
@@ -11,11 +11,11 @@ use lib.ListN.{length, drop}
 use borrow.Author.Tests.{eqb-true, eqb-false, eq-eqb, ne-eqb, leb-true, le-leb, not-false}
 use Rattle.rules.specs.Codes.{Code, dataBits}
 use Rattle.rules.specs.Words.{isIn, answer, mend}
-use Rattle.rules.specs.Frames.{isFrame, corner, rowsFirst}
+use Rattle.rules.specs.Frames.{isFrame, isErased, corner}
 use Rattle.rules.specs.Bits.{rowBytes, wordOf, frameOf, wordBytes, bytesOf, spareOnes}
 use Rattle.rules.specs.Passes.{Ending, clean, repaired, stuck, spent, Outcome, decoded}
-use Rattle.rules.specs.Numbers.{told, handedOut, ended, number, Figures, figuresOf, mostAllowed, pick, notAllowed, dataBytes, frameBytes, encodeNumber, encodeOutput, readNumber, readOutput, refused, decodeRefusal, decodeSaid, decodeOutput, wordRefused, answered, wordRefusal, wordSaid, wordNumber, wordOutput, RefusalList, first, sizeRefusals, encodeRefusals, readRefusals, decodeRefusals, wordRefusals}
-use Rattle.rules.proofs.Laws.OneOfLaws.{OneOf, one-of-self, one-of-cons, one-of-back, one-of-front, and-both, allIn}
+use Rattle.rules.specs.Numbers.{told, handedOut, ended, number, Figures, figuresOf, mostAllowed, pick, notAllowed, dataBytes, frameBytes, encodeNumber, encodeOutput, frameFor, readNumber, readOutput, refused, erased, undecoded, decodeRefusal, decodeSaid, decodeOutput, wordRefused, answered, wordRefusal, wordSaid, wordNumber, wordOutput, RefusalList, first, sizeRefusals, encodeRefusals, readRefusals, decodeRefusals, wordRefusals}
+use Rattle.rules.proofs.Laws.OneOfLaws.{OneOf, one-of-self, one-of-cons, one-of-back, one-of-front, none-of-cons}
 
 -- ---- a list of checks
 
@@ -47,18 +47,15 @@ abbrev pub Clear : RefusalList → Type 0
 Clear [] = Unit {0}
 Clear (check ∷ later) = (check .0 ≡ false) × Clear later
 
--- 0 is given exactly if none does
-pub first-clear : (checks : RefusalList) → allIn 1 9 (numbers checks) ≡ true → (first checks ≡ 0) ↔ Clear checks
-unfolding allIn
+-- 0 is given exactly if none does, where no check has that number
+pub first-clear : (checks : RefusalList) → isIn 0 (numbers checks) ≡ false → (first checks ≡ 0) ↔ Clear checks
 first-clear [] h = (λ e. tt, λ e. refl)
-first-clear (check ∷ later) h =
-    let t = and-both (leb 1 (check .1) && leb (check .1) 9) (allIn 1 9 (numbers later)) h in
-    go (check .0) (leb-true 1 (check .1) (and-both (leb 1 (check .1)) (leb (check .1) 9) (t .0) .0)) (first-clear later (t .1))
+first-clear (check ∷ later) h = let t = none-of-cons 0 (check .1) (numbers later) h in go (check .0) (t .0) (first-clear later (t .1))
   where
     go :
-        (b : Bool) → 1 ≤ check .1 → (first later ≡ 0) ↔ Clear later
+        (b : Bool) → 0 ≢ check .1 → (first later ≡ 0) ↔ Clear later
         → (pick b (check .1) (first later) ≡ 0) ↔ ((b ≡ false) × Clear later)
-    go true some rest = (λ e. absurd (omega arith), λ e. absurd (true≢false (e .0)))
+    go true some rest = (λ e. absurd (some (sym e)), λ e. absurd (true≢false (e .0)))
     go false some rest = (λ e. (refl, rest .0 e), λ e. rest .1 (e .1))
 
 -- ---- the tests: a check that doesn't apply
@@ -109,43 +106,51 @@ sized code n input a output b later = (
       ),
 )
 
--- one check more
-alone : {X : Type 0} (t : Bool) (r : ℕ) → (t ≡ false) ↔ X → Clear ((t, r) ∷ []) ↔ X
-alone t r h = (λ c. h .0 (c .0), λ x. (h .1 x, tt))
+-- and with two checks more
+sized-two :
+    (code : Code) (n : ℕ) (input : List ℕ) (a : ℕ) (output : List ℕ) (b : ℕ) (t u : Bool) (r q : ℕ) {X Y : Type 0} → (t ≡ false) ↔ X → (u ≡ false) ↔ Y
+    → Clear (sizeRefusals code n input a output b ((t, r) ∷ (u, q) ∷ [])) ↔ (Sized code n input a output b × X × Y)
+sized-two code n input a output b t u r q h k =
+    let s = sized code n input a output b ((t, r) ∷ (u, q) ∷ []) in (
+      λ c. let p = s .0 c in (p .0, h .0 (p .1 .0), k .0 (p .1 .1 .0)),
+      λ p. s .1 (p .0, (h .1 (p .1), (k .1 (p .2), tt))),
+    )
 
 -- ---- when each entry point accepts
 
 pub encode-accepts :
     (code : Code) (n : ℕ) (input output : List ℕ)
-    → (encodeNumber code n input output ≡ 0) ↔ (Sized code n input (dataBytes code n) output (frameBytes n) × (spareOnes (dataBits code n) input ≡ 0))
-unfolding encodeNumber allIn
+    → (encodeNumber code n input output ≡ 0)
+    ↔ (Sized code n input (dataBytes code n) output (frameBytes n) × (spareOnes (dataBits code n) input ≡ 0) × (isErased n (frameFor code n input) ≡ false))
+unfolding encodeNumber isIn
 encode-accepts code n input output =
     Iff·trans (first-clear (encodeRefusals code n input output) refl)
-    (Iff·trans (sized code n input (dataBytes code n) output (frameBytes n) (drop 3 (encodeRefusals code n input output)))
-    (Iff·and Iff·rfl (alone (not (eqb (spareOnes (dataBits code n) input) 0)) 5 (equal-test (spareOnes (dataBits code n) input) 0))))
+    (sized-two code n input (dataBytes code n) output (frameBytes n) (not (eqb (spareOnes (dataBits code n) input) 0)) (isErased n (frameFor code n input)) 5 10
+    (equal-test (spareOnes (dataBits code n) input) 0) Iff·rfl)
 
 pub read-accepts :
     (code : Code) (n : ℕ) (input output : List ℕ)
-    → (readNumber code n input output ≡ 0) ↔ (Sized code n input (frameBytes n) output (dataBytes code n) × (isFrame code n (frameOf n input) ≡ true))
-unfolding readNumber allIn
+    → (readNumber code n input output ≡ 0)
+    ↔ (Sized code n input (frameBytes n) output (dataBytes code n) × (isErased n (frameOf n input) ≡ false) × (isFrame code n (frameOf n input) ≡ true))
+unfolding readNumber isIn
 read-accepts code n input output =
     Iff·trans (first-clear (readRefusals code n input output) refl)
-    (Iff·trans (sized code n input (frameBytes n) output (dataBytes code n) (drop 3 (readRefusals code n input output)))
-    (Iff·and Iff·rfl (alone (not (isFrame code n (frameOf n input))) 6 (true-test (isFrame code n (frameOf n input))))))
+    (sized-two code n input (frameBytes n) output (dataBytes code n) (isErased n (frameOf n input)) (not (isFrame code n (frameOf n input))) 10 6
+    Iff·rfl (true-test (isFrame code n (frameOf n input))))
 
 pub decode-accepts :
     (code : Code) (n allowance : ℕ) (input output : List ℕ)
     → (decodeRefusal code n allowance input output ≡ 0)
-    ↔ (Sized code n input (frameBytes n) output (frameBytes n) × ((1 ≤ allowance) × (allowance ≤ mostAllowed)))
-unfolding decodeRefusal allIn
+    ↔ (Sized code n input (frameBytes n) output (frameBytes n) × ((1 ≤ allowance) × (allowance ≤ mostAllowed)) × (isErased n (frameOf n input) ≡ false))
+unfolding decodeRefusal isIn
 decode-accepts code n allowance input output =
     Iff·trans (first-clear (decodeRefusals code n allowance input output) refl)
-    (Iff·trans (sized code n input (frameBytes n) output (frameBytes n) (drop 3 (decodeRefusals code n allowance input output)))
-    (Iff·and Iff·rfl (alone (notAllowed allowance) 4 (range-test 1 mostAllowed allowance))))
+    (sized-two code n input (frameBytes n) output (frameBytes n) (notAllowed allowance) (isErased n (frameOf n input)) 4 10
+    (range-test 1 mostAllowed allowance) Iff·rfl)
 
 pub word-accepts :
     (code : Code) (n : ℕ) (input output : List ℕ) → (wordRefusal code n input output ≡ 0) ↔ Sized code n input (rowBytes n) output (rowBytes n)
-unfolding wordRefusal allIn
+unfolding wordRefusal isIn
 word-accepts code n input output =
     Iff·trans (first-clear (wordRefusals code n input output) refl)
     (Iff·trans (sized code n input (rowBytes n) output (rowBytes n) []) (λ h. h .0, λ f. (f, tt)))
@@ -171,7 +176,7 @@ at-either P r x y h k = go (eqb r 0) refl
 pub encode-refused : (code : Code) (n : ℕ) (input output : List ℕ) → encodeNumber code n input output ≢ 0 → encodeOutput code n input output ≡ output
 unfolding encodeOutput
 encode-refused code n input output h =
-    at-other (encodeNumber code n input output) (bytesOf n (rowsFirst code n (frameOf (dataBits code n) input))) output h
+    at-other (encodeNumber code n input output) (bytesOf n (frameFor code n input)) output h
 
 pub read-refused : (code : Code) (n : ℕ) (input output : List ℕ) → readNumber code n input output ≢ 0 → readOutput code n input output ≡ output
 unfolding readOutput
@@ -180,13 +185,13 @@ read-refused code n input output h =
 
 pub decode-refused :
     (code : Code) (n allowance : ℕ) (input output : List ℕ) → decodeRefusal code n allowance input output ≢ 0
-    → (decodeSaid code n allowance input output ≡ refused (decodeRefusal code n allowance input output))
+    → (decodeSaid code n allowance input output ≡ undecoded (decodeRefusal code n allowance input output))
     × (decodeOutput code n allowance input output ≡ output)
 unfolding decodeSaid decodeOutput
 decode-refused code n allowance input output h =
     let r : ℕ = decodeRefusal code n allowance input output in
     let o : Outcome = decoded code n allowance (frameOf n input) in
-    (at-other r (told o) (refused r) h, at-other r (handedOut n input o) output h)
+    (at-other r (told o) (undecoded r) h, at-other r (handedOut n input o) output h)
 
 pub word-refused :
     (code : Code) (n : ℕ) (input output : List ℕ) → wordRefusal code n input output ≢ 0
@@ -198,6 +203,14 @@ word-refused code n input output h =
       at-other r (answered (answer code n (wordOf n input 0))) (wordRefused r) h,
       at-other r (pick (eqb (wordNumber (wordSaid code n input output)) 0) w input) output h,
     )
+
+-- what is said instead of an outcome carries its number
+pub undecoded-number : (r : ℕ) → number (undecoded r) ≡ r
+undecoded-number r = go (eqb r 10) refl
+  where
+    go : (b : Bool) → eqb r 10 ≡ b → number (pick b erased (refused r)) ≡ r
+    go true e = sym (eqb-true r 10 e)
+    go false e = refl
 
 -- a success hands out the last frame, another ending what was received
 pub handed :

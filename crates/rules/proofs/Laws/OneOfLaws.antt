@@ -1,12 +1,12 @@
 -- Which numbers can occur: a number on a list.
 -- Assumes nothing.
-use mathlib.Core.Path.{_≡_, refl}
-use mathlib.Core.Logic.{_⊎_, inl, inr}
-use mathlib.Core.Bool.{Bool, true, false, _&&_, _||_, or-true, false≢true}
+use mathlib.Core.Path.{_≡_, refl, sym, ap, _∙_}
+use mathlib.Core.Logic.{_≢_, _⊎_, inl, inr}
+use mathlib.Core.Bool.{Bool, true, false, not, _&&_, _||_, or-true, true≢false, false≢true}
 use mathlib.Core.List.{List, [], _∷_, _++_}
 use Prim.Native.Nat.{ℕ, _≤_}
 use lib.Dec.{eqb, leb}
-use borrow.Author.Tests.{eqb-true, eq-eqb, leb-true}
+use borrow.Author.Tests.{eqb-true, eq-eqb, leb-true, not-true}
 use Rattle.rules.specs.Words.{isIn}
 
 abbrev pub OneOf : ℕ → List ℕ → Type 0
@@ -51,6 +51,31 @@ one-of-front x (p ∷ l) m h = go (or-cases (eqb x p) (isIn x l) h) (one-of-fron
     go : (eqb x p ≡ true) ⊎ (isIn x l ≡ true) → (OneOf x l → OneOf x (l ++ m)) → (eqb x p || isIn x (l ++ m)) ≡ true
     go (inl e) ih = or-left (eqb x p) (isIn x (l ++ m)) e
     go (inr e) ih = or-right (eqb x p) (isIn x (l ++ m)) (ih e)
+
+-- not on a list: neither its first number nor on the rest
+pub none-of-cons : (x p : ℕ) (l : List ℕ) → isIn x (p ∷ l) ≡ false → (x ≢ p) × (isIn x l ≡ false)
+unfolding isIn
+none-of-cons x p l h = go (eqb x p) refl h
+  where
+    go : (b : Bool) → eqb x p ≡ b → (b || isIn x l) ≡ false → (x ≢ p) × (isIn x l ≡ false)
+    go true e k = absurd (true≢false k)
+    go false e k = (λ q. true≢false (sym (eq-eqb x p q) ∙ e), k)
+
+-- no number is on both lists: to be computed
+unfoldable pub apart : List ℕ → List ℕ → Bool
+apart [] m = true
+apart (p ∷ l) m = not (isIn p m) && apart l m
+
+pub one-of-apart : (x : ℕ) (l m : List ℕ) → apart l m ≡ true → OneOf x l → ¬ OneOf x m
+unfolding isIn apart
+one-of-apart x [] m a h k = false≢true h
+one-of-apart x (p ∷ l) m a h k =
+    let t = and-both (not (isIn p m)) (apart l m) a in
+    go (one-of-cons x p l h) (not-true (isIn p m) (t .0)) (λ q. one-of-apart x l m (t .1) q k)
+  where
+    go : (x ≡ p) ⊎ OneOf x l → isIn p m ≡ false → (OneOf x l → ⊥) → ⊥
+    go (inl e) n rest = true≢false (sym k ∙ ap (λ y. isIn y m) e ∙ n)
+    go (inr q) n rest = rest q
 
 -- every number of the list is lo..hi: to be computed
 unfoldable pub allIn : ℕ → ℕ → List ℕ → Bool

@@ -16,7 +16,7 @@ use Rattle.rules.specs.Words.{remainder, isCodeword, Codeword, answer, p
 use Rattle.rules.specs.Frames.{row}
 use Rattle.rules.specs.Bits.{rowBytes, wordOf, frameOf, wordBytes}
 use Rattle.rules.specs.Passes.{clean, repaired, stuck, spent, Outcome, decoded}
-use Rattle.rules.specs.Numbers.{frameBytes, encodeNumber, encodeOutput, Decoded, ended, decodeRefusal, decodeSaid, decodeOutput, WordSaid, answered, number, wordSaid, wordNumber, wordOutput, pick, told, handedOut, refused, wordRefused, wordRefusal}
+use Rattle.rules.specs.Numbers.{frameBytes, encodeNumber, encodeOutput, Decoded, ended, decodeRefusal, decodeSaid, decodeOutput, WordSaid, answered, number, wordSaid, wordNumber, wordOutput, pick, told, handedOut, undecoded, wordRefused, wordRefusal}
 use Rattle.rules.proofs.Laws.SmallCode.{sound-small}
 use Rattle.rules.proofs.Laws.Shape.{wordOf-length}
 use Rattle.rules.proofs.Laws.EncodeWordLaws.{codeword-unique}
@@ -117,7 +117,7 @@ quick : Asked → Got
 quick (decode n a s) =
     let r : ℕ = decodeRefusal smallCode n a s (nines (frameBytes n)) in
     let o : Outcome = decoded smallCode n a (frameOf n s) in
-    pick (eqb r 0) (decodes (number (told o)) (told o) (handedOut n s o)) (decodes r (refused r) (nines (frameBytes n)))
+    pick (eqb r 0) (decodes (number (told o)) (told o) (handedOut n s o)) (decodes (number (undecoded r)) (undecoded r) (nines (frameBytes n)))
 quick (encode n d) = got (encode n d)
 quick (word n s) =
     let r : ℕ = wordRefusal smallCode n s (nines (rowBytes n)) in
@@ -139,8 +139,8 @@ quick-is (decode n a s) = go (eqb (decodeRefusal smallCode n a s (nines (frameBy
 
     go :
         (b : Bool)
-        → decodes (number (pick b (told o) (refused r))) (pick b (told o) (refused r)) (pick b (handedOut n s o) (nines (frameBytes n)))
-        ≡ pick b (decodes (number (told o)) (told o) (handedOut n s o)) (decodes r (refused r) (nines (frameBytes n)))
+        → decodes (number (pick b (told o) (undecoded r))) (pick b (told o) (undecoded r)) (pick b (handedOut n s o) (nines (frameBytes n)))
+        ≡ pick b (decodes (number (told o)) (told o) (handedOut n s o)) (decodes (number (undecoded r)) (undecoded r) (nines (frameBytes n)))
     go true = refl
     go false = refl
 quick-is (encode n d) = refl

@@ -9,7 +9,7 @@ use Prim.Native.Nat.{ℕ, suc, _≤_}
 use native.Mathlib.Decide.{ℕ-discrete}
 use native.Mathlib.Omega.{arith}
 use lib.Dec.{leb}
-use lib.ListN.{length}
+use lib.ListN.{length, drop}
 use Rattle.algebra.specs.Words.{Word}
 use Rattle.rules.specs.Codes.{Code, dataBits}
 use Rattle.rules.specs.Frames.{Frame, Square, isFrame}
@@ -19,12 +19,13 @@ use Rattle.rules.specs.Numbers.{frameBytes, dataBytes, refused, told, wo
 use Rattle.rules.proofs.Laws.CodeLaws.{Sound, Mends}
 use Rattle.rules.proofs.Laws.Shape.{transposed-square, wordOf-length}
 use Rattle.rules.proofs.Laws.FrameLaws.{frame-rows, frame-columns, rows-columns-frame}
+use Rattle.rules.proofs.Laws.ErasedLaws.{AllOnes}
 use Rattle.rules.proofs.Laws.NumberLaws.{range-test}
 use Rattle.rules.proofs.Promises.Answers.{Fits, answers}
 use Rattle.rules.proofs.Promises.Encoding.{frame-unique}
 use Rattle.rules.proofs.Promises.Refusals.{row-test, GoodRow}
 use Rattle.rules.proofs.Promises.Passes.{PassRule, passes-promise}
-use Rattle.rules.proofs.Promises.EntryRules.{Reasons, Given, sizes, AllCodewords, SpareSet, encodeReasons, EncodeRule, readReasons, ReadRule, decodeReasons, written, DecodeRule, wordReasons, writtenWord, WordRule, RowRule}
+use Rattle.rules.proofs.Promises.EntryRules.{Reasons, Given, sizes, AllCodewords, FrameOfData, encodeReasons, EncodeRule, readReasons, ReadRule, decodeReasons, written, DecodeRule, wordReasons, writtenWord, WordRule, RowRule}
 
 -- whatever keeps a rule twice is equal, result and every byte
 abbrev pub Once : {A : Type 0} → (A → List ℕ → Type 0) → Type 0
@@ -94,6 +95,12 @@ frame-all code n f s = (
   λ a. rows-columns-frame code n f (λ i hi. a .0 i hi .1) (λ j hj. a .1 j hj .1),
 )
 
+pub data-frame-unique :
+    (code : Code) (ok : Sound code) (n : ℕ) (input : List ℕ) (f h : Frame) → code .shortest ≤ n → FrameOfData code n input f → FrameOfData code n input h
+    → f ≡ h
+data-frame-unique code ok n input f h le t u =
+    frame-unique code ok n f h le (t .0) (u .0) (frame-all code n f (t .0) .1 (t .1)) (frame-all code n h (u .0) .1 (u .1)) (t .2 ∙ sym (u .2))
+
 encode-once : (code : Code) (ok : Sound code) (n : ℕ) (input output : List ℕ) → Once (EncodeRule code n input output)
 encode-once code ok n input output r r′ exit exit′ k k′ =
     let e : r ≡ r′ = given-once (encodeReasons code n input output) r r′ (k .number) (k′ .number) in (
@@ -102,11 +109,10 @@ encode-once code ok n input output r r′ exit exit′ k k′ =
           (λ z z′.
           let t = k .done z in
           let u = k′ .done z′ in
-          let b = sized code n input (dataBytes code n) output (frameBytes n) ((SpareSet (dataBits code n) input, 5) ∷ []) r (k .number) z in
-          t .4
-          ∙ ap (bytesOf n)
-          (frame-unique code ok n (t .0) (u .0) (b .0) (t .1) (u .1) (frame-all code n (t .0) (t .1) .1 (t .2)) (frame-all code n (u .0) (u .1) .1 (u .2)) (t .3 ∙ sym (u .3)))
-          ∙ sym (u .4))
+          let b = sized code n input (dataBytes code n) output (frameBytes n) (drop 3 (encodeReasons code n input output)) r (k .number) z in
+          t .2
+          ∙ ap (bytesOf n) (data-frame-unique code ok n input (t .0) (u .0) (b .0) (t .1) (u .1))
+          ∙ sym (u .2))
           (λ z z′. k .untouched z ∙ sym (k′ .untouched z′)),
     )
 
@@ -120,21 +126,25 @@ read-once code n input output r r′ exit exit′ k k′ =
 decode-once : (code : Code) (n allowance : ℕ) (input output : List ℕ) → Once (DecodeRule code n allowance input output)
 decode-once code n allowance input output said said′ exit exit′ k k′ =
     let X : Type 0 = (1 ≤ allowance) × (allowance ≤ 32) in
-    let e = given-once (decodeReasons code n allowance input output) (k .refusal) (k′ .refusal) (k .number) (k′ .number) in
     both-ways ((said ≡ said′) × (exit ≡ exit′)) (k .refusal) (k′ .refusal) e
     (λ z z′.
     let t = k .ends z in
     let u = k′ .ends z′ in
-    let b = sized code n input (frameBytes n) output (frameBytes n) ((¬ X, 4) ∷ []) (k .refusal) (k .number) z in
-    let a = in-range 1 32 allowance (none-applies (¬ X) 3 [] (k .refusal) (b .2) z .0) .0 in
+    let later : Reasons = (AllOnes n (frameOf n input), 10) ∷ [] in
+    let b = sized code n input (frameBytes n) output (frameBytes n) ((¬ X, 4) ∷ later) (k .refusal) (k .number) z in
+    let a = in-range 1 32 allowance (none-applies (¬ X) 3 later (k .refusal) (b .2) z .0) .0 in
     let same : (o : Outcome) → PassRule code n allowance (frameOf n input) o → o ≡ decoded code n allowance (frameOf n input) =
     λ o p. passes-promise code .only n allowance (frameOf n input) o a p in
     let o = same (t .0) (t .1) ∙ sym (same (u .0) (u .1)) in
     (t .2 ∙ ap told o ∙ sym (u .2), t .3 ∙ ap (λ x. written n input (x .ending) (x .last)) o ∙ sym (u .3)))
-    (λ z z′.
-    let t = k .refuses z in
-    let u = k′ .refuses z′ in
-    (t .0 ∙ ap refused e ∙ sym (u .0), t .1 ∙ sym (u .1)))
+    (λ z z′. (same-said (ℕ-discrete (k .refusal) 10) z z′, k .untouched z ∙ sym (k′ .untouched z′)))
+  where
+    e : k .refusal ≡ k′ .refusal
+    e = given-once (decodeReasons code n allowance input output) (k .refusal) (k′ .refusal) (k .number) (k′ .number)
+
+    same-said : Dec (k .refusal ≡ 10) → k .refusal ≢ 0 → k′ .refusal ≢ 0 → said ≡ said′
+    same-said (yes t) z z′ = k .erases t ∙ sym (k′ .erases (sym e ∙ t))
+    same-said (no t) z z′ = k .refuses z t ∙ ap refused e ∙ sym (k′ .refuses z′ (λ q. t (e ∙ q)))
 
 answer-once : (code : Code) (able : Mends code) (n : ℕ) → code .shortest ≤ n → n ≤ code .longest → (w : Word) → length w ≡ n → (a a′ : Option (List ℕ)) → Fits code n w a → Fits code n w a′ → a ≡ a′
 answer-once code able n h b w l a a′ p q = answers code able n h b w l .only a p ∙ sym (answers code able n h b w l .only a′ q)

@@ -8,28 +8,32 @@ use mathlib.Core.Option.{Option, some, none}
 use Prim.Native.Nat.{ℕ, _≤_}
 use lib.Dec.{eqb}
 use lib.ListN.{length}
-use borrow.Author.Tests.{eqb-true, eqb-false, not-true, not-false}
+use native.Mathlib.Omega.{arith}
+use borrow.Author.Tests.{eqb-true, eqb-false, eq-eqb, ne-eqb, not-true, not-false}
 use Rattle.algebra.specs.Words.{Word}
 use Rattle.rules.specs.Codes.{Code, dataBits}
 use Rattle.rules.specs.Words.{answer, places, isIn, changed, mend}
-use Rattle.rules.specs.Frames.{Frame, isFrame}
+use Rattle.rules.specs.Frames.{Frame, isFrame, isErased}
 use Rattle.rules.specs.Bits.{rowBytes, wordOf, frameOf, wordBytes, bytesOf, spareOnes}
 use Rattle.rules.specs.Passes.{Ending, clean, repaired, stuck, spent, Outcome, decoded}
-use Rattle.rules.specs.Numbers.{pick, outside, notAllowed, notLong, frameBytes, dataBytes, RefusalList, first, sizeRefusals, encodeNumber, encodeOutput, readNumber, readOutput, refused, ended, told, handedOut, decodeRefusal, decodeSaid, decodeOutput, figuresOf, figuresWith, wordRefused, answered, wordRefusal, wordSaid, wordNumber, wordOutput, rowPart, Exit, encode, read, decode, decodeWord}
+use Rattle.rules.specs.Numbers.{pick, outside, notAllowed, notLong, frameBytes, dataBytes, RefusalList, first, sizeRefusals, frameFor, encodeNumber, encodeOutput, readNumber, readOutput, refused, erased, undecoded, ended, told, handedOut, decodeRefusal, decodeSaid, decodeOutput, figuresOf, figuresWith, wordRefused, answered, wordRefusal, wordSaid, wordNumber, wordOutput, rowPart, Exit, encode, read, decode, decodeWord}
 use Rattle.rules.proofs.Laws.CodeLaws.{Sound, Mends}
 use Rattle.rules.proofs.Laws.Shape.{frameOf-square, wordOf-length}
+use Rattle.rules.proofs.Laws.ErasedLaws.{AllOnes, erased-ones, not-ones}
 use Rattle.rules.proofs.Laws.PackLaws.{spare-zero, spare-some}
 use Rattle.rules.proofs.Laws.NumberLaws.{range-test, equal-test, true-test, decode-accepts, word-accepts, at-zero, encode-refused, read-refused, decode-refused, word-refused}
 use Rattle.rules.proofs.Promises.Answers.{answer-fits}
-use Rattle.rules.proofs.Promises.RoundTrip.{frame, encoded, is-written}
+use Rattle.rules.proofs.Promises.Encoding.{encoding}
+use Rattle.rules.proofs.Promises.RoundTrip.{accepted, is-written}
 use Rattle.rules.proofs.Promises.Refusals.{refuses}
 use Rattle.rules.proofs.Promises.Passes.{passes-promise}
-use Rattle.rules.proofs.Promises.EntryRules.{Reasons, Given, sizes, SpareSet, AllCodewords, encodeReasons, EncodeRule, readReasons, ReadRule, decodeReasons, written, DecodeRule, wordReasons, writtenWord, WordRule, RowRule}
-use Rattle.rules.proofs.Promises.Determined.{frame-all, determined}
+use Rattle.rules.proofs.Promises.EntryRules.{Reasons, Given, sizes, SpareSet, AllCodewords, FrameOfData, encodeReasons, EncodeRule, readReasons, ReadRule, decodeReasons, written, DecodeRule, wordReasons, writtenWord, WordRule, RowRule}
+use Rattle.rules.proofs.Promises.Determined.{frame-all, data-frame-unique, determined}
 
 -- the number and the values, case by case
 pub record NumbersPromise : Type 0 where
   pub refused-is : (r : ℕ) → figuresOf (refused r) ≡ figuresWith r 0 0 0 0
+  pub erased-is : figuresOf erased ≡ figuresWith 10 0 0 0 0
   pub clean-is : (p b r c : ℕ) → figuresOf (ended clean p b r c) ≡ figuresWith 0 p b 0 0
   pub repaired-is : (p b r c : ℕ) → figuresOf (ended repaired p b r c) ≡ figuresWith 0 p b 0 0
   pub stuck-is : (p b r c : ℕ) → figuresOf (ended stuck p b r c) ≡ figuresWith 7 p b r c
@@ -65,69 +69,98 @@ pub record Entries (code : Code) : Type 0 where
 
 -- a check in front: it applies exactly where the reason is there
 given-first :
-    (b : Bool) (x y : ℕ) (X : Type 0) (later : Reasons) → (b ≡ true → X) → (b ≡ false → ¬ X) → Given later y
+    (b : Bool) (x y : ℕ) (X : Type 0) (later : Reasons) → (b ≡ true → X) → (b ≡ false → ¬ X) → (b ≡ false → Given later y)
     → Given ((X, x) ∷ later) (pick b x y)
 given-first true x y X later h k g = inl (h refl, refl)
-given-first false x y X later h k g = inr (k refl, g)
+given-first false x y X later h k g = inr (k refl, g refl)
 
--- the reason is that something is not so
+-- the reason is that something is not so; what is looked for later may count on it
 given-not :
-    (b : Bool) (x y : ℕ) (X : Type 0) (later : Reasons) → (b ≡ false) ↔ X → Given later y → Given ((¬ X, x) ∷ later) (pick b x y)
+    (b : Bool) (x y : ℕ) (X : Type 0) (later : Reasons) → (b ≡ false) ↔ X → (X → Given later y) → Given ((¬ X, x) ∷ later) (pick b x y)
 given-not b x y X later t g =
-    given-first b x y (¬ X) later (λ e p. true≢false (sym e ∙ t .1 p)) (λ e q. q (t .0 e)) g
+    given-first b x y (¬ X) later (λ e p. true≢false (sym e ∙ t .1 p)) (λ e q. q (t .0 e)) (λ e. g (t .0 e))
+
+-- the reason is that a square is all ones
+given-ones :
+    (n : ℕ) (f : Frame) (x y : ℕ) (later : Reasons) → Given later y → Given ((AllOnes n f, x) ∷ later) (pick (isErased n f) x y)
+given-ones n f x y later g =
+    given-first (isErased n f) x y (AllOnes n f) later (erased-ones n f .0) (not-ones n f) (λ e. g)
 
 sizes-given :
-    (code : Code) (n : ℕ) (input : List ℕ) (takes : ℕ) (output : List ℕ) (gives : ℕ) (checks : RefusalList) (later : Reasons) → Given later (first checks)
+    (code : Code) (n : ℕ) (input : List ℕ) (takes : ℕ) (output : List ℕ) (gives : ℕ) (checks : RefusalList) (later : Reasons)
+    → (code .shortest ≤ n → Given later (first checks))
     → Given (sizes code n input takes output gives later) (first (sizeRefusals code n input takes output gives checks))
 sizes-given code n input takes output gives checks later g =
     let rest : Reasons = (length output ≢ gives, 3) ∷ later in
     given-not (outside code n) 1 (pick (notLong input takes) 2 (pick (notLong output gives) 3 (first checks))) ((code .shortest ≤ n) × (n ≤ code .longest))
     ((length input ≢ takes, 2) ∷ rest) (range-test (code .shortest) (code .longest) n)
-    (given-not (notLong input takes) 2 (pick (notLong output gives) 3 (first checks)) (length input ≡ takes) rest (equal-test (length input) takes)
-    (given-not (notLong output gives) 3 (first checks) (length output ≡ gives) later (equal-test (length output) gives) g))
+    (λ b.
+    given-not (notLong input takes) 2 (pick (notLong output gives) 3 (first checks)) (length input ≡ takes) rest (equal-test (length input) takes)
+    (λ i. given-not (notLong output gives) 3 (first checks) (length output ≡ gives) later (equal-test (length output) gives) (λ o. g (b .0))))
 
-encode-given : (code : Code) (n : ℕ) (input output : List ℕ) → Given (encodeReasons code n input output) (encodeNumber code n input output)
+-- encoding gives the data's frame
+data-frame : (code : Code) (ok : Sound code) (n : ℕ) (input : List ℕ) → code .shortest ≤ n → FrameOfData code n input (frameFor code n input)
+data-frame code ok n input le =
+    let e = encoding code ok n (frameOf (dataBits code n) input) le (frameOf-square (dataBits code n) input) in
+    (e .square, frame-all code n (frameFor code n input) (e .square) .0 (e .frame), e .holds)
+
+encode-given :
+    (code : Code) (ok : Sound code) (n : ℕ) (input output : List ℕ) → Given (encodeReasons code n input output) (encodeNumber code n input output)
 unfolding encodeNumber
-encode-given code n input output =
+encode-given code ok n input output =
     let k : ℕ = dataBits code n in
     let c : Bool = eqb (spareOnes k input) 0 in
-    sizes-given code n input (dataBytes code n) output (frameBytes n) ((not c, 5) ∷ []) ((SpareSet k input, 5) ∷ [])
-    (given-first (not c) 5 0 (SpareSet k input) [] (λ e. spare-some k input (eqb-false (spareOnes k input) 0 (not-true c e)))
+    let f : Frame = frameFor code n input in
+    let E : Type 0 = (h : Frame) × FrameOfData code n input h × AllOnes n h in
+    sizes-given code n input (dataBytes code n) output (frameBytes n) ((not c, 5) ∷ (isErased n f, 10) ∷ []) ((SpareSet k input, 5) ∷ (E, 10) ∷ [])
+    (λ le.
+    given-first (not c) 5 (pick (isErased n f) 10 0) (SpareSet k input) ((E, 10) ∷ [])
+    (λ e. spare-some k input (eqb-false (spareOnes k input) 0 (not-true c e)))
     (λ e t.
     true≢false
     (sym (t .5)
     ∙ spare-zero k input (eqb-true (spareOnes k input) 0 (not-false c e)) (t .0) (t .1) (t .2) (t .3) (t .4)))
-    refl)
+    (λ e.
+    given-first (isErased n f) 10 0 E []
+    (λ q. (f, data-frame code ok n input le, erased-ones n f .0 q))
+    (λ q t. not-ones n f q (rw (data-frame-unique code ok n input f (t .0) le (data-frame code ok n input le) (t .1)) (t .2)))
+    (λ q. refl)))
 
 read-given : (code : Code) (n : ℕ) (input output : List ℕ) → Given (readReasons code n input output) (readNumber code n input output)
 unfolding readNumber
 read-given code n input output =
     let f : Frame = frameOf n input in
     let X : Type 0 = AllCodewords code n f in
-    sizes-given code n input (frameBytes n) output (dataBytes code n) ((not (isFrame code n f), 6) ∷ []) ((¬ X, 6) ∷ [])
-    (given-not (not (isFrame code n f)) 6 0 X [] (Iff·trans (true-test (isFrame code n f)) (frame-all code n f (frameOf-square n input))) refl)
+    sizes-given code n input (frameBytes n) output (dataBytes code n) ((isErased n f, 10) ∷ (not (isFrame code n f), 6) ∷ [])
+    ((AllOnes n f, 10) ∷ (¬ X, 6) ∷ [])
+    (λ le.
+    given-ones n f 10 (pick (not (isFrame code n f)) 6 0) ((¬ X, 6) ∷ [])
+    (given-not (not (isFrame code n f)) 6 0 X [] (Iff·trans (true-test (isFrame code n f)) (frame-all code n f (frameOf-square n input))) (λ a. refl)))
 
 decode-given :
     (code : Code) (n allowance : ℕ) (input output : List ℕ) → Given (decodeReasons code n allowance input output) (decodeRefusal code n allowance input output)
 unfolding decodeRefusal
 decode-given code n allowance input output =
+    let f : Frame = frameOf n input in
     let X : Type 0 = (1 ≤ allowance) × (allowance ≤ 32) in
-    sizes-given code n input (frameBytes n) output (frameBytes n) ((notAllowed allowance, 4) ∷ []) ((¬ X, 4) ∷ [])
-    (given-not (notAllowed allowance) 4 0 X [] (range-test 1 32 allowance) refl)
+    sizes-given code n input (frameBytes n) output (frameBytes n) ((notAllowed allowance, 4) ∷ (isErased n f, 10) ∷ [])
+    ((¬ X, 4) ∷ (AllOnes n f, 10) ∷ [])
+    (λ le.
+    given-not (notAllowed allowance) 4 (pick (isErased n f) 10 0) X ((AllOnes n f, 10) ∷ []) (range-test 1 32 allowance)
+    (λ a. given-ones n f 10 0 [] refl))
 
 word-given : (code : Code) (n : ℕ) (input output : List ℕ) → Given (wordReasons code n input output) (wordRefusal code n input output)
 unfolding wordRefusal
-word-given code n input output = sizes-given code n input (rowBytes n) output (rowBytes n) [] [] refl
+word-given code n input output = sizes-given code n input (rowBytes n) output (rowBytes n) [] [] (λ le. refl)
 
 -- ---- Encoding and reading
 
 encodes-here : (code : Code) (ok : Sound code) (n : ℕ) (input output : List ℕ) → EncodeRule code n input output (encodeNumber code n input output) (encodeOutput code n input output)
 encodes-here code ok n input output = record {
-  number = encode-given code n input output;
+  number = encode-given code ok n input output;
   untouched = encode-refused code n input output;
   done = λ z.
-      let e = encoded code ok n input output z in
-      (frame code n input, e .square, frame-all code n (frame code n input) (e .square) .0 (e .frame), e .holds, is-written code ok n input output z);
+      (frameFor code n input, data-frame code ok n input (accepted code ok n input output z .0 .from), is-written code ok n input output z);
 }
 
 reads-here : (code : Code) (ok : Sound code) (n : ℕ) (input output : List ℕ) → ReadRule code n input output (readNumber code n input output) (readOutput code n input output)
@@ -161,11 +194,13 @@ decodes-here code n allowance input output =
     record {
       refusal = r;
       number = decode-given code n allowance input output;
-      refuses = decode-refused code n allowance input output;
+      refuses = λ z t. decode-refused code n allowance input output z .0 ∙ ap (λ b. pick b erased (refused r)) (ne-eqb r 10 t);
+      erases = λ t. decode-refused code n allowance input output (λ z. omega arith) .0 ∙ ap (λ b. pick b erased (refused r)) (eq-eqb r 10 t);
+      untouched = λ z. decode-refused code n allowance input output z .1;
       ends = λ z. (
         o,
         passes-promise code .holds n allowance (frameOf n input) (decode-accepts code n allowance input output .0 z .1 .0),
-        at-zero r (told o) (refused r) z,
+        at-zero r (told o) (undecoded r) z,
         at-zero r (handedOut n input o) output z ∙ handed-is n input o,
       );
     }
@@ -214,6 +249,7 @@ rows-here code ok n input i = record { part = λ g. refuses code ok .row n input
 numbers-here : NumbersPromise
 numbers-here = record {
   refused-is = λ r. refl;
+  erased-is = refl;
   clean-is = λ p b r c. refl;
   repaired-is = λ p b r c. refl;
   stuck-is = λ p b r c. refl;

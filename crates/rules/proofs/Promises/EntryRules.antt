@@ -12,7 +12,8 @@ use Rattle.rules.specs.Words.{Codeword, changed}
 use Rattle.rules.specs.Frames.{Frame, row, Square, transposed, corner}
 use Rattle.rules.specs.Bits.{rowBytes, stride, bitAt, wordOf, frameOf, wordBytes, bytesOf}
 use Rattle.rules.specs.Passes.{Ending, clean, repaired, stuck, spent, Outcome}
-use Rattle.rules.specs.Numbers.{frameBytes, dataBytes, Decoded, refused, ended, WordSaid, wordRefused, answered}
+use Rattle.rules.specs.Numbers.{frameBytes, dataBytes, Decoded, refused, erased, ended, WordSaid, wordRefused, answered}
+use Rattle.rules.proofs.Laws.ErasedLaws.{AllOnes}
 use Rattle.rules.proofs.Promises.Answers.{Fits}
 use Rattle.rules.proofs.Promises.Passes.{PassRule}
 use Rattle.rules.proofs.Promises.Refusals.{GoodRow, rowOfBytes}
@@ -39,22 +40,28 @@ SpareSet k s = (i : ℕ) × (j : ℕ) × (i < k) × (k ≤ j) × (j < stride k) 
 abbrev pub AllCodewords : Code → ℕ → Frame → Type 0
 AllCodewords code n f = ((i : ℕ) → i < n → Codeword code n (row f i)) × ((j : ℕ) → j < n → Codeword code n (row (transposed n f) j))
 
+-- the data's frame: all its rows and columns are codewords, and the data stand in its corner
+abbrev pub FrameOfData : Code → ℕ → List ℕ → Frame → Type 0
+FrameOfData code n input f = Square n f × AllCodewords code n f × (corner (dataBits code n) f ≡ frameOf (dataBits code n) input)
+
+-- reason 5: a spare bit. Reason 10: the data's frame has a one in every place
 abbrev pub encodeReasons : Code → ℕ → List ℕ → List ℕ → Reasons
-encodeReasons code n input output = sizes code n input (dataBytes code n) output (frameBytes n) ((SpareSet (dataBits code n) input, 5) ∷ [])
+encodeReasons code n input output =
+    sizes code n input (dataBytes code n) output (frameBytes n)
+    ((SpareSet (dataBits code n) input, 5) ∷ ((f : Frame) × FrameOfData code n input f × AllOnes n f, 10) ∷ [])
 
 pub record EncodeRule (code : Code) (n : ℕ) (input output : List ℕ) (r : ℕ) (exit : List ℕ) : Type 0 where
   pub number : Given (encodeReasons code n input output) r
   -- refused: the output is as it was
   pub untouched : r ≢ 0 → exit ≡ output
-  -- the output is a frame that has these data in its corner, spare bits zero
-  pub done :
-      r ≡ 0
-      → (f : Frame) × Square n f × AllCodewords code n f × (corner (dataBits code n) f ≡ frameOf (dataBits code n) input) × (exit ≡ bytesOf n f)
+  -- the output is the data's frame, spare bits zero
+  pub done : r ≡ 0 → (f : Frame) × FrameOfData code n input f × (exit ≡ bytesOf n f)
 
--- reason 6: the code bits are no frame
+-- reason 10: the code bits are all ones. Reason 6: they are no frame
 abbrev pub readReasons : Code → ℕ → List ℕ → List ℕ → Reasons
 readReasons code n input output =
-    sizes code n input (frameBytes n) output (dataBytes code n) ((¬ AllCodewords code n (frameOf n input), 6) ∷ [])
+    sizes code n input (frameBytes n) output (dataBytes code n)
+    ((AllOnes n (frameOf n input), 10) ∷ (¬ AllCodewords code n (frameOf n input), 6) ∷ [])
 
 pub record ReadRule (code : Code) (n : ℕ) (input output : List ℕ) (r : ℕ) (exit : List ℕ) : Type 0 where
   pub number : Given (readReasons code n input output) r
@@ -62,10 +69,10 @@ pub record ReadRule (code : Code) (n : ℕ) (input output : List ℕ) (r : ℕ) 
   -- the output is the frame's corner, spare bits zero; those of the frame do not matter
   pub done : r ≡ 0 → exit ≡ bytesOf (dataBits code n) (corner (dataBits code n) (frameOf n input))
 
--- reason 4: the range of the allowance
+-- reason 4: the range of the allowance. Reason 10: the code bits are all ones
 abbrev pub decodeReasons : Code → ℕ → ℕ → List ℕ → List ℕ → Reasons
 decodeReasons code n allowance input output =
-    sizes code n input (frameBytes n) output (frameBytes n) ((¬ ((1 ≤ allowance) × (allowance ≤ 32)), 4) ∷ [])
+    sizes code n input (frameBytes n) output (frameBytes n) ((¬ ((1 ≤ allowance) × (allowance ≤ 32)), 4) ∷ (AllOnes n (frameOf n input), 10) ∷ [])
 
 -- the frame of a success; else what was received
 abbrev pub written : ℕ → List ℕ → Ending → Frame → List ℕ
@@ -77,7 +84,9 @@ written n input spent f = input
 pub record DecodeRule (code : Code) (n allowance : ℕ) (input output : List ℕ) (said : Decoded) (exit : List ℕ) : Type 0 where
   pub refusal : ℕ
   pub number : Given (decodeReasons code n allowance input output) refusal
-  pub refuses : refusal ≢ 0 → (said ≡ refused refusal) × (exit ≡ output)
+  pub refuses : refusal ≢ 0 → refusal ≢ 10 → said ≡ refused refusal
+  pub erases : refusal ≡ 10 → said ≡ erased
+  pub untouched : refusal ≢ 0 → exit ≡ output
   -- an outcome that keeps the pass rule, and what is said of it
   pub ends :
       refusal ≡ 0

@@ -2,7 +2,7 @@
 -- Assumes nothing.
 use mathlib.Core.Path.{_≡_, refl, sym, ap, _∙_}
 use mathlib.Core.Logic.{_≢_, ⊎-elim}
-use mathlib.Core.Bool.{true, true≢false}
+use mathlib.Core.Bool.{true, false, true≢false}
 use mathlib.Core.List.{List, [], _∷_, _++_}
 use Prim.Native.Nat.{ℕ, suc, _≤_}
 use native.Mathlib.Omega.{arith}
@@ -12,14 +12,14 @@ use Rattle.rules.specs.Codes.{radius, smallCode}
 use Rattle.rules.specs.Frames.{isFrame}
 use Rattle.rules.specs.Bits.{wordOf, frameOf, bytesOf}
 use Rattle.rules.specs.Passes.{clean, repaired, stuck, differences, good, decoded}
-use Rattle.rules.specs.Numbers.{encodeNumber, encodeOutput, ended, refused, told, handedOut, decodeRefusal, decodeSaid, decodeOutput, number}
+use Rattle.rules.specs.Numbers.{encodeNumber, encodeOutput, ended, undecoded, told, handedOut, decodeRefusal, decodeSaid, decodeOutput, number}
 use Rattle.rules.specs.Damage.{spoilt}
 use Rattle.rules.proofs.Laws.Shape.{frameOf-square}
 use Rattle.rules.proofs.Laws.NumberLaws.{at-zero}
 use Rattle.rules.proofs.Laws.Computing.{computing}
 use Rattle.rules.proofs.Promises.Distance.{DistanceAt}
 use Rattle.rules.proofs.Promises.RepairFrames.{Restored, RepairsFramesAt}
-use Rattle.rules.proofs.Promises.Repair.{Written, Back, BackAt}
+use Rattle.rules.proofs.Promises.Repair.{Written, Back, NotErased, BackAt}
 
 abbrev zeros : ℕ → List ℕ
 zeros m = replicate m 0
@@ -58,7 +58,7 @@ pub record Limit : Type 0 where
   pub no-farther : ¬ DistanceAt smallCode (suc (smallCode .distance))
   -- three rows of three wrong bits are already too many: item D is not mended
   pub three-rows : ¬ RepairsFramesAt smallCode (suc (radius smallCode))
-  pub three-rows-bytes : ¬ BackAt smallCode (suc (radius smallCode))
+  pub three-rows-bytes : ¬ BackAt smallCode (suc (radius smallCode)) NotErased
 
 -- item D
 abbrev nine : List ℕ
@@ -90,6 +90,10 @@ zeros-written : Written smallCode 18 (zeros 54)
 unfolding computing
 zeros-written = record { input = 0 ∷ []; blank = zeros 54; accepts = refl; writes = refl }
 
+nine-seen : NotErased 18 nine
+unfolding computing
+nine-seen all = let z : false ≡ true = all 17 17 (omega arith) (omega arith) in true≢false (sym z)
+
 no-three : ¬ RepairsFramesAt smallCode (suc (radius smallCode))
 no-three r =
     let b : Restored (frameOf 18 (zeros 54)) (decoded smallCode 18 2 (frameOf 18 nine)) =
@@ -103,10 +107,10 @@ no-three r =
     apart′ : stuck ≢ repaired
     apart′ q = let z : _≡_ {A = ℕ} 0 1 = cc in omega arith
 
-no-three-bytes : ¬ BackAt smallCode (suc (radius smallCode))
+no-three-bytes : ¬ BackAt smallCode (suc (radius smallCode)) NotErased
 no-three-bytes r =
     let b : Back smallCode 18 2 (zeros 54) nine (zeros 54) =
-    r 18 2 (zeros 54) nine (zeros 54) zeros-written (refl, omega (arith, nine-rows .1)) (omega arith) (omega arith) refl in
+    r 18 2 (zeros 54) nine (zeros 54) zeros-written (refl, omega (arith, nine-rows .1)) nine-seen (omega arith) (omega arith) refl in
     omega (arith, b .zero, nine-said)
 
 -- computed once, for what is said and for the output
@@ -122,7 +126,7 @@ said-here : decodeSaid smallCode 31 2 received (zeros 124) ≡ ended repaired 2 
 unfolding decodeSaid
 said-here =
     at-zero (decodeRefusal smallCode 31 2 received (zeros 124)) (told (decoded smallCode 31 2 (frameOf 31 received)))
-    (refused (decodeRefusal smallCode 31 2 received (zeros 124))) accepted
+    (undecoded (decodeRefusal smallCode 31 2 received (zeros 124))) accepted
     ∙ ap told goes-wrong
 
 other-bytes : bytesOf 31 (frameOf 31 other) ≡ other

@@ -1,15 +1,17 @@
 -- RULES 7: decode's answer as one number: every value has room in it, and is read back.
 -- Assumes nothing.
 use mathlib.Core.Path.{_≡_, refl}
+use mathlib.Core.Bool.{Bool, true, false}
 use mathlib.Core.List.{List, _∷_}
 use Prim.Native.Nat.{ℕ, _+_, _*_, _/_, _%_, _^_, _≤_, _<_}
+use lib.Dec.{eqb}
 use native.Mathlib.Nat.{mul-le-mul}
 use native.Mathlib.Omega.{arith}
 use Rattle.rules.specs.Codes.{smallCode}
 use Rattle.rules.specs.Frames.{Frame, Square}
 use Rattle.rules.specs.Bits.{frameOf}
 use Rattle.rules.specs.Passes.{Ending, clean, repaired, stuck, spent, Outcome, decoded}
-use Rattle.rules.specs.Numbers.{Figures, refused, ended, told, figuresOf, decodeRefusals, decodeRefusal, decodeSaid}
+use Rattle.rules.specs.Numbers.{pick, Figures, figuresWith, refused, erased, undecoded, ended, told, figuresOf, decodeRefusals, decodeRefusal, decodeSaid}
 use Rattle.rules.specs.Packed.{packedFigures, unpackedFigures, HasRoom}
 use Rattle.rules.proofs.Laws.Shape.{frameOf-square}
 use Rattle.rules.proofs.Laws.SmallCode.{sound-small}
@@ -50,7 +52,7 @@ decoded-few n a f h b some most s =
     }
 
 values-fit :
-    (k p b r c : ℕ) → k ≤ 8 → p ≤ 32 → b ≤ 16384 → r ≤ 256 → c ≤ 256
+    (k p b r c : ℕ) → k ≤ 10 → p ≤ 32 → b ≤ 16384 → r ≤ 256 → c ≤ 256
     → HasRoom (record { number = k; passes = p; bits = b; rows = r; columns = c })
 values-fit k p b r c hk hp hb hr hc =
     record { number = omega arith; passes = omega arith; bits = omega arith; rows = omega arith; columns = omega arith }
@@ -64,21 +66,28 @@ told-fits o k = go (o .ending) (o .passes) (o .bits) (o .rows) (o .columns) (k .
     go stuck p b r c hp hb hr hc = values-fit 7 p b r c (omega arith) hp hb hr hc
     go spent p b r c hp hb hr hc = values-fit 8 p b r c (omega arith) hp hb hr hc
 
-refused-fits : (r : ℕ) → r ≤ 4 → HasRoom (figuresOf (refused r))
-refused-fits r h = values-fit r 0 0 0 0 (omega arith) (omega arith) (omega arith) (omega arith) (omega arith)
+number-fits : (r : ℕ) → r ≤ 10 → HasRoom (figuresWith r 0 0 0 0)
+number-fits r h = values-fit r 0 0 0 0 h (omega arith) (omega arith) (omega arith) (omega arith)
+
+undecoded-fits : (r : ℕ) → r ≤ 10 → HasRoom (figuresOf (undecoded r))
+undecoded-fits r h = go (eqb r 10)
+  where
+    go : (b : Bool) → HasRoom (figuresOf (pick b erased (refused r)))
+    go true = number-fits 10 (omega arith)
+    go false = number-fits r h
 
 said-fits : (n allowance : ℕ) (received output : List ℕ) → HasRoom (figuresOf (decodeSaid smallCode n allowance received output))
 unfolding decodeSaid decodeRefusal allIn
 said-fits n allowance received output =
     at-either (λ d. HasRoom (figuresOf d)) (decodeRefusal smallCode n allowance received output) (told (decoded smallCode n allowance (frameOf n received)))
-    (refused (decodeRefusal smallCode n allowance received output))
+    (undecoded (decodeRefusal smallCode n allowance received output))
     (λ z.
     let k = decode-accepts smallCode n allowance received output .0 z in
     told-fits (decoded smallCode n allowance (frameOf n received))
     (decoded-few n allowance (frameOf n received) (k .0 .from) (k .0 .upTo) (k .1 .0) (k .1 .1) (frameOf-square n received)))
     (λ z.
-    refused-fits (decodeRefusal smallCode n allowance received output)
-    (one-of-range 0 4 (decodeRefusal smallCode n allowance received output) (0 ∷ numbers (decodeRefusals smallCode n allowance received output)) refl
+    undecoded-fits (decodeRefusal smallCode n allowance received output)
+    (one-of-range 0 10 (decodeRefusal smallCode n allowance received output) (0 ∷ numbers (decodeRefusals smallCode n allowance received output)) refl
     (first-in (decodeRefusals smallCode n allowance received output)) .1))
 
 -- ---- packing, and reading back

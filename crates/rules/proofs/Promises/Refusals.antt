@@ -1,7 +1,7 @@
 -- RULES 6: the table of numbers, of every entry point: which can occur, and what stands in the output for each.
 -- Assumes nothing.
 use mathlib.Core.Path.{_≡_, refl, sym, ap, _∙_}
-use mathlib.Core.Logic.{_≢_, _↔_, _⊎_, inl, inr}
+use mathlib.Core.Logic.{_≢_, _↔_, _⊎_, inl, inr, ⊎-elim}
 use mathlib.Core.Bool.{Bool, true, false, not, _||_, true≢false}
 use mathlib.Core.List.{List, [], _∷_, _++_}
 use mathlib.Core.Option.{Option, some, none}
@@ -15,21 +15,21 @@ use lib.Seq.{length-take-le}
 use borrow.Author.Tests.{ltb-true, lt-ltb, not-false}
 use Rattle.rules.specs.Codes.{Code, dataBits}
 use Rattle.rules.specs.Words.{answer, mend, isIn}
-use Rattle.rules.specs.Frames.{corner, rowsFirst}
+use Rattle.rules.specs.Frames.{corner}
 use Rattle.rules.specs.Bits.{rowBytes, wordOf, frameOf, wordBytes, bytesOf}
 use Rattle.rules.specs.Passes.{Ending, clean, repaired, stuck, spent, Outcome, decoded}
-use Rattle.rules.specs.Numbers.{pick, outside, notLong, frameBytes, encodeNumber, encodeOutput, readNumber, readOutput, refused, told, handedOut, decodeRefusal, decodeSaid, decodeOutput, ended, number, wordRefused, answered, wordRefusal, wordSaid, wordNumber, wordOutput, rowRefused, rowPart, encodeRefusals, readRefusals, decodeRefusals, wordRefusals}
+use Rattle.rules.specs.Numbers.{pick, outside, notLong, frameBytes, encodeNumber, encodeOutput, frameFor, readNumber, readOutput, undecoded, told, handedOut, decodeRefusal, decodeSaid, decodeOutput, ended, number, wordRefused, answered, wordRefusal, wordSaid, wordNumber, wordOutput, rowRefused, rowPart, encodeRefusals, readRefusals, decodeRefusals, wordRefusals}
 use Rattle.rules.proofs.Laws.CodeLaws.{Sound}
 use Rattle.rules.proofs.Laws.PackLaws.{bytesOf-length, wordBytes-length}
-use Rattle.rules.proofs.Laws.NumberLaws.{range-test, equal-test, first-in, encode-accepts, read-accepts, decode-accepts, word-accepts, handed, at-zero, at-other, at-either}
-use Rattle.rules.proofs.Laws.OneOfLaws.{OneOf, one-of-cons, one-of-back, one-of-front, allIn, one-of-range}
+use Rattle.rules.proofs.Laws.NumberLaws.{range-test, equal-test, first-in, encode-accepts, read-accepts, decode-accepts, word-accepts, undecoded-number, handed, at-zero, at-other, at-either}
+use Rattle.rules.proofs.Laws.OneOfLaws.{OneOf, one-of-cons, one-of-back, one-of-front, apart, one-of-apart}
 
 -- the table's rows for one entry point: the number given, and what the output holds then
 pub record NumberTable (refusals endings : List ℕ) (given : ℕ) (accepted input output out : List ℕ) : Type 0 where
   pub one : OneOf given (0 ∷ refusals ++ endings)
   -- 0: what was asked for
   pub done : given ≡ 0 → out ≡ accepted
-  -- refused: as it was
+  -- refused or erased: as it was
   pub untouched : OneOf given refusals → out ≡ output
   -- stuck, spent or none near enough: what was received
   pub received : OneOf given endings → out ≡ input
@@ -46,15 +46,15 @@ rowOfBytes n input i = take (rowBytes n) (drop (i * rowBytes n) input)
 pub record Refuses (code : Code) : Type 0 where
   pub encode :
       (n : ℕ) (input output : List ℕ)
-      → NumberTable (1 ∷ 2 ∷ 3 ∷ 5 ∷ []) [] (encodeNumber code n input output) (bytesOf n (rowsFirst code n (frameOf (dataBits code n) input))) input output
+      → NumberTable (1 ∷ 2 ∷ 3 ∷ 5 ∷ 10 ∷ []) [] (encodeNumber code n input output) (bytesOf n (frameFor code n input)) input output
       (encodeOutput code n input output)
   pub read :
       (n : ℕ) (input output : List ℕ)
-      → NumberTable (1 ∷ 2 ∷ 3 ∷ 6 ∷ []) [] (readNumber code n input output) (bytesOf (dataBits code n) (corner (dataBits code n) (frameOf n input))) input output
+      → NumberTable (1 ∷ 2 ∷ 3 ∷ 10 ∷ 6 ∷ []) [] (readNumber code n input output) (bytesOf (dataBits code n) (corner (dataBits code n) (frameOf n input))) input output
       (readOutput code n input output)
   pub decode :
       (n allowance : ℕ) (input output : List ℕ)
-      → NumberTable (1 ∷ 2 ∷ 3 ∷ 4 ∷ []) (7 ∷ 8 ∷ []) (number (decodeSaid code n allowance input output))
+      → NumberTable (1 ∷ 2 ∷ 3 ∷ 4 ∷ 10 ∷ []) (7 ∷ 8 ∷ []) (number (decodeSaid code n allowance input output))
       (bytesOf n (decoded code n allowance (frameOf n input) .last)) input output (decodeOutput code n allowance input output)
   pub word :
       (n : ℕ) (input output : List ℕ)
@@ -67,15 +67,8 @@ pub record Refuses (code : Code) : Type 0 where
 
 -- ---- the table, from the number of the refusal and that of the ending
 
--- refusals are 1..6, endings 7..9
-module _ (refusals endings : List ℕ) (low : allIn 1 6 refusals ≡ true) (high : allIn 7 9 endings ≡ true) where
-  small : (x : ℕ) → OneOf x (0 ∷ refusals) → x < 7
-  small x h = go (one-of-cons x 0 refusals h)
-    where
-      go : (x ≡ 0) ⊎ OneOf x refusals → x < 7
-      go (inl e) = omega arith
-      go (inr e) = omega (arith, one-of-range 1 6 x refusals low e)
-
+-- no number is on both lists, and 0 on neither
+module _ (refusals endings : List ℕ) (separate : apart refusals (0 ∷ endings) ≡ true) (some : isIn 0 endings ≡ false) where
   ending-all : (x : ℕ) → OneOf x (0 ∷ endings) → OneOf x (0 ∷ refusals ++ endings)
   unfolding isIn
   ending-all x h = go (one-of-cons x 0 endings h)
@@ -83,13 +76,6 @@ module _ (refusals endings : List ℕ) (low : allIn 1 6 refusals ≡ true) (high
       go : (x ≡ 0) ⊎ OneOf x endings → OneOf x (0 ∷ refusals ++ endings)
       go (inl e) = rw e refl
       go (inr e) = one-of-back x (0 ∷ refusals) endings e
-
-  ending-apart : (x : ℕ) → OneOf x (0 ∷ endings) → OneOf x refusals → ⊥
-  ending-apart x h k = go (one-of-cons x 0 endings h)
-    where
-      go : (x ≡ 0) ⊎ OneOf x endings → ⊥
-      go (inl e) = omega (arith, one-of-range 1 6 x refusals low k)
-      go (inr e) = omega (arith, one-of-range 1 6 x refusals low k, one-of-range 7 9 x endings high e)
 
   table :
       (r e given : ℕ) (inner accepted input output : List ℕ) → given ≡ pick (eqb r 0) e r
@@ -105,10 +91,10 @@ module _ (refusals endings : List ℕ) (low : allIn 1 6 refusals ≡ true) (high
           record {
             one = rw g (ending-all e he);
             done = λ q. o ∙ at-zero e accepted input (sym g ∙ q);
-            untouched = λ q. absurd (ending-apart e he (rw g at q));
+            untouched = λ q. absurd (one-of-apart e refusals (0 ∷ endings) separate (rw g at q) he);
             received = λ q.
                 let q′ : OneOf e endings = rw g at q in
-                o ∙ at-other e accepted input (λ p. omega (arith, one-of-range 7 9 e endings high q′));
+                o ∙ at-other e accepted input (λ p. true≢false (sym q′ ∙ ap (λ x. isIn x endings) p ∙ some));
             long = ap length o ∙ at-either (λ s. length s ≡ length output) e accepted input (λ p. hl z .0) (λ p. hl z .1 p);
           }
       go (no z) =
@@ -120,18 +106,18 @@ module _ (refusals endings : List ℕ) (low : allIn 1 6 refusals ≡ true) (high
             untouched = λ q. o;
             received = λ q.
                 let q′ : OneOf r endings = rw g at q in
-                absurd (omega (arith, small r hr, one-of-range 7 9 r endings high q′));
+                absurd (⊎-elim z (λ k. one-of-apart r refusals (0 ∷ endings) separate k (one-of-back r (0 ∷ []) endings q′)) (one-of-cons r 0 refusals hr));
             long = ap length o;
           }
 
 -- ---- encoding and reading: no endings
 
 plain :
-    (refusals : List ℕ) → allIn 1 6 refusals ≡ true → (r : ℕ) (accepted input output : List ℕ) → OneOf r (0 ∷ refusals)
+    (refusals : List ℕ) → apart refusals (0 ∷ []) ≡ true → (r : ℕ) (accepted input output : List ℕ) → OneOf r (0 ∷ refusals)
     → (r ≡ 0 → length accepted ≡ length output) → NumberTable refusals [] r accepted input output (pick (eqb r 0) accepted output)
-unfolding isIn allIn
-plain refusals low r accepted input output hr hl =
-    table refusals [] low refl r 0 r accepted accepted input output (at-either (λ x. r ≡ x) r 0 r (λ z. z) (λ z. refl)) hr refl (λ z. refl)
+unfolding isIn
+plain refusals separate r accepted input output hr hl =
+    table refusals [] separate refl r 0 r accepted accepted input output (at-either (λ x. r ≡ x) r 0 r (λ z. z) (λ z. refl)) hr refl (λ z. refl)
     (λ z. (hl z, λ p. absurd (p refl)))
 
 -- ---- decoding
@@ -150,14 +136,14 @@ pick-ap f false x y = refl
 
 decode-table :
     (code : Code) (n allowance : ℕ) (input output : List ℕ)
-    → NumberTable (1 ∷ 2 ∷ 3 ∷ 4 ∷ []) (7 ∷ 8 ∷ []) (number (decodeSaid code n allowance input output))
+    → NumberTable (1 ∷ 2 ∷ 3 ∷ 4 ∷ 10 ∷ []) (7 ∷ 8 ∷ []) (number (decodeSaid code n allowance input output))
     (bytesOf n (decoded code n allowance (frameOf n input) .last)) input output (decodeOutput code n allowance input output)
-unfolding decodeRefusal decodeSaid decodeOutput allIn
+unfolding decodeRefusal decodeSaid decodeOutput isIn apart
 decode-table code n allowance input output =
     let r : ℕ = decodeRefusal code n allowance input output in
     let o : Outcome = decoded code n allowance (frameOf n input) in
-    table (1 ∷ 2 ∷ 3 ∷ 4 ∷ []) (7 ∷ 8 ∷ []) refl refl r (number (told o)) (number (decodeSaid code n allowance input output))
-    (handedOut n input o) (bytesOf n (o .last)) input output (pick-ap number (eqb r 0) (told o) (refused r))
+    table (1 ∷ 2 ∷ 3 ∷ 4 ∷ 10 ∷ []) (7 ∷ 8 ∷ []) refl refl r (number (told o)) (number (decodeSaid code n allowance input output))
+    (handedOut n input o) (bytesOf n (o .last)) input output (pick-ap number (eqb r 0) (told o) (undecoded r) ∙ ap (pick (eqb r 0) (number (told o))) (undecoded-number r))
     (first-in (decodeRefusals code n allowance input output)) (ending-in (o .ending) (o .passes) (o .bits) (o .rows) (o .columns))
     (λ z. handed n input o)
     (λ z.
@@ -179,7 +165,7 @@ word-table :
     (code : Code) (n : ℕ) (input output : List ℕ)
     → NumberTable (1 ∷ 2 ∷ 3 ∷ []) (9 ∷ []) (wordNumber (wordSaid code n input output)) (wordBytes n (mend code n (wordOf n input 0))) input output
     (wordOutput code n input output)
-unfolding wordSaid wordOutput allIn
+unfolding wordSaid wordOutput isIn apart
 word-table code n input output =
     let r : ℕ = wordRefusal code n input output in
     let a : Option (List ℕ) = answer code n (wordOf n input 0) in
@@ -238,15 +224,15 @@ row-bad code n input i k = go (rowRefused code n input i) refl
     go false q = absurd (k (row-test code n input i .0 q))
 
 pub refuses : (code : Code) (ok : Sound code) → Refuses code
-unfolding encodeNumber encodeOutput readNumber readOutput allIn
+unfolding encodeNumber encodeOutput readNumber readOutput isIn apart
 refuses code ok = record {
   encode = λ n input output.
-      let new : List ℕ = bytesOf n (rowsFirst code n (frameOf (dataBits code n) input)) in
-      plain (1 ∷ 2 ∷ 3 ∷ 5 ∷ []) refl (encodeNumber code n input output) new input output (first-in (encodeRefusals code n input output))
-      (λ z. bytesOf-length n (rowsFirst code n (frameOf (dataBits code n) input)) ∙ sym (encode-accepts code n input output .0 z .0 .lent));
+      let new : List ℕ = bytesOf n (frameFor code n input) in
+      plain (1 ∷ 2 ∷ 3 ∷ 5 ∷ 10 ∷ []) refl (encodeNumber code n input output) new input output (first-in (encodeRefusals code n input output))
+      (λ z. bytesOf-length n (frameFor code n input) ∙ sym (encode-accepts code n input output .0 z .0 .lent));
   read = λ n input output.
       let new : List ℕ = bytesOf (dataBits code n) (corner (dataBits code n) (frameOf n input)) in
-      plain (1 ∷ 2 ∷ 3 ∷ 6 ∷ []) refl (readNumber code n input output) new input output (first-in (readRefusals code n input output))
+      plain (1 ∷ 2 ∷ 3 ∷ 10 ∷ 6 ∷ []) refl (readNumber code n input output) new input output (first-in (readRefusals code n input output))
       (λ z. bytesOf-length (dataBits code n) (corner (dataBits code n) (frameOf n input)) ∙ sym (read-accepts code n input output .0 z .0 .lent));
   decode = decode-table code;
   word = word-table code;

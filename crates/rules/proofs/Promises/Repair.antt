@@ -8,9 +8,12 @@ use Prim.Native.Nat.{ℕ, suc, _+_, _*_, _≤_, _<_}
 use native.Mathlib.Decide.{ℕ-discrete}
 use native.Mathlib.Omega.{arith}
 use lib.ListN.{length}
+use Rattle.algebra.specs.Words.{Word, bit, differ}
+use Rattle.algebra.proofs.TableLaws.{tab-ext, total-few}
+use Rattle.algebra.proofs.WordLaws.{differ-zero}
 use Rattle.rules.specs.Codes.{Code, radius, dataBits}
-use Rattle.rules.specs.Words.{isIn}
-use Rattle.rules.specs.Frames.{Frame, Square, isFrame}
+use Rattle.rules.specs.Words.{isIn, isCodeword}
+use Rattle.rules.specs.Frames.{Frame, Square, row, cell, transposed, isFrame}
 use Rattle.rules.specs.Bits.{stride, bitAt, wordOf, frameOf, bytesOf}
 use Rattle.rules.specs.Passes.{differences, Outcome, decoded}
 use Rattle.rules.specs.Numbers.{
@@ -19,7 +22,8 @@ use Rattle.rules.specs.Numbers.{
   frameBytes,
   encodeNumber,
   encodeOutput,
-  refused,
+  frameFor,
+  undecoded,
   told,
   handedOut,
   decodeRefusal,
@@ -31,13 +35,14 @@ use Rattle.rules.specs.Numbers.{
 }
 use Rattle.rules.specs.Damage.{spoilt, wrongBits}
 use Rattle.rules.proofs.Laws.CodeLaws.{Sound, Mends}
-use Rattle.rules.proofs.Laws.Shape.{word-ext, frameOf-square, frameOf-row, frameOf-cell, wordOf-length, wordOf-bit}
+use Rattle.rules.proofs.Laws.Shape.{word-ext, transposed-row, frameOf-square, frameOf-row, frameOf-cell, wordOf-length, wordOf-bit}
+use Rattle.rules.proofs.Laws.ErasedLaws.{allOnes, AllOnes, not-erased, not-ones}
 use Rattle.rules.proofs.Laws.PackLaws.{spare-free}
-use Rattle.rules.proofs.Laws.NumberLaws.{Sized, decode-accepts, decode-refused, handed, told-success, told-both, at-zero}
+use Rattle.rules.proofs.Laws.NumberLaws.{Sized, decode-accepts, decode-refused, undecoded-number, handed, told-success, told-both, at-zero}
 use Rattle.rules.proofs.Promises.Encoding.{Encoded}
-use Rattle.rules.proofs.Promises.RoundTrip.{frame, accepted, encoded, is-written, is-frame}
+use Rattle.rules.proofs.Promises.RoundTrip.{accepted, encoded, is-written, is-frame}
 use Rattle.rules.proofs.Laws.TwoPasses.{few-wrong, rows-lost as rows-gone, columns-lost as columns-gone}
-use Rattle.rules.proofs.Promises.RepairFrames.{Success, Restored, repairs-frames, counts-damage, spoiled-apart}
+use Rattle.rules.proofs.Promises.RepairFrames.{Success, Restored, repairs-frames, counts-damage, ones-codeword, row-unharmed, column-unharmed, spoiled-apart}
 
 -- ---- The statement
 
@@ -67,14 +72,30 @@ pub record Back (code : Code) (n allowance : ℕ) (written received output : Lis
 abbrev pub Agree : ℕ → List ℕ → List ℕ → Type 0
 Agree n s s′ = (i j : ℕ) → i < n → j < n → bitAt s (i * stride n + j) ≡ bitAt s′ (i * stride n + j)
 
--- a frame with at most `rows` spoiled rows comes back, whatever the allowance from two on
-abbrev pub BackAt : Code → ℕ → Type 0
-BackAt code rows =
-    (n allowance : ℕ) (written received output : List ℕ) → Written code n written → SpoiledAt code rows n written received → 2 ≤ allowance
-    → allowance ≤ mostAllowed → length output ≡ frameBytes n → Back code n allowance written received output
+-- some code bit that was received is not one
+abbrev pub NotErased : ℕ → List ℕ → Type 0
+NotErased n received = ¬ AllOnes n (frameOf n received)
+
+-- a frame with at most `rows` spoiled rows comes back, whatever the allowance from two on, if what was received is as the premise asks
+abbrev pub BackAt : Code → ℕ → (ℕ → List ℕ → Type 0) → Type 0
+BackAt code rows Premise =
+    (n allowance : ℕ) (written received output : List ℕ) → Written code n written → SpoiledAt code rows n written received → Premise n received
+    → 2 ≤ allowance → allowance ≤ mostAllowed → length output ≡ frameBytes n → Back code n allowance written received output
 
 pub record RepairPromise (code : Code) : Type 0 where
-  pub back : BackAt code (radius code)
+  pub back : BackAt code (radius code) NotErased
+  -- the premise is met where a row has no wrong bit,
+  pub row-unharmed :
+      (n : ℕ) (written received : List ℕ) → Written code n written → Spoiled code n written received
+      → (i : ℕ) → i < n → ((j : ℕ) → j < n → bitAt written (i * stride n + j) ≡ bitAt received (i * stride n + j)) → NotErased n received
+  -- where a column has none,
+  pub column-unharmed :
+      (n : ℕ) (written received : List ℕ) → Written code n written → Spoiled code n written received
+      → (j : ℕ) → j < n → ((i : ℕ) → i < n → bitAt written (i * stride n + j) ≡ bitAt received (i * stride n + j)) → NotErased n received
+  -- and at an n at which the word of ones is a codeword
+  pub ones-codeword :
+      (n : ℕ) (written received : List ℕ) → Written code n written → Spoiled code n written received
+      → isCodeword code n (allOnes n) ≡ true → NotErased n received
   -- whatever the allowance, number 0 means the written bytes, and the count is the number of wrong bits
   pub counts :
       (n allowance : ℕ) (written received output : List ℕ) → Written code n written → Spoiled code n written received
@@ -89,6 +110,10 @@ pub record RepairPromise (code : Code) : Type 0 where
   pub few-bits :
       (n : ℕ) (written received : List ℕ) → length received ≡ frameBytes n
       → wrongBits n written received < suc (radius code) * suc (radius code) → Spoiled code n written received
+  -- fewer wrong bits than rows: some row has none
+  pub some-row :
+      (n : ℕ) (written received : List ℕ) → wrongBits n written received < n
+      → (i : ℕ) × (i < n) × ((j : ℕ) → j < n → bitAt written (i * stride n + j) ≡ bitAt received (i * stride n + j))
   -- rows lost whole, as many as the radius
   pub rows-lost :
       (n : ℕ) (written received : List ℕ) (lost : List ℕ) → length lost ≤ radius code → length received ≡ frameBytes n
@@ -108,7 +133,7 @@ success-zero o (inr q) = ap (λ e. number (ended e (o .passes) (o .bits) (o .row
 
 module _ (code : Code) (ok : Sound code) (n : ℕ) (written : List ℕ) (w : Written code n written) where
   the-frame : Frame
-  the-frame = frame code n (w .input)
+  the-frame = frameFor code n (w .input)
 
   sized : Sized code n (w .input) (dataBytes code n) (w .blank) (frameBytes n)
   sized = accepted code ok n (w .input) (w .blank) (w .accepts) .0
@@ -134,6 +159,63 @@ module _ (code : Code) (ok : Sound code) (n : ℕ) (written : List ℕ) (w : Wri
   whole : isFrame code n the-frame ≡ true
   unfolding the-frame
   whole = made .frame
+
+  some-zero : ¬ AllOnes n the-frame
+  unfolding the-frame
+  some-zero = not-ones n (frameFor code n (w .input)) (accepted code ok n (w .input) (w .blank) (w .accepts) .2)
+
+wordOf-ext :
+    (n : ℕ) (s t : List ℕ) (start : ℕ) → ((j : ℕ) → j < n → bitAt s (start + j) ≡ bitAt t (start + j)) → wordOf n s start ≡ wordOf n t start
+wordOf-ext n s t start h =
+    word-ext n (wordOf n s start) (wordOf n t start) (wordOf-length n s start) (wordOf-length n t start)
+    (λ j l. wordOf-bit n s start j l ∙ h j l ∙ sym (wordOf-bit n t start j l))
+
+same-row :
+    (n : ℕ) (s t : List ℕ) (i : ℕ) → i < n → ((j : ℕ) → j < n → bitAt s (i * stride n + j) ≡ bitAt t (i * stride n + j))
+    → row (frameOf n s) i ≡ row (frameOf n t) i
+same-row n s t i l same = frameOf-row n s i l ∙ wordOf-ext n s t (i * stride n) same ∙ sym (frameOf-row n t i l)
+
+same-column :
+    (n : ℕ) (s t : List ℕ) (j : ℕ) → j < n → ((i : ℕ) → i < n → bitAt s (i * stride n + j) ≡ bitAt t (i * stride n + j))
+    → row (transposed n (frameOf n s)) j ≡ row (transposed n (frameOf n t)) j
+same-column n s t j l same =
+    transposed-row n (frameOf n s) j l
+    ∙ tab-ext n (λ i. cell (frameOf n s) i j) (λ i. cell (frameOf n t) i j)
+    (λ i m. frameOf-cell n s i j m l ∙ same i m ∙ sym (frameOf-cell n t i j m l))
+    ∙ sym (transposed-row n (frameOf n t) j l)
+
+-- the premise: all that was received were ones
+module _
+    (code : Code) (able : Mends code) (n : ℕ) (written received : List ℕ) (w : Written code n written) (s : Spoiled code n written received)
+    (all : AllOnes n (frameOf n received)) where
+  abbrev ok : Sound code
+  ok = able .sound
+
+  never : AllOnes n (the-frame code ok n written w) → ⊥
+  never = some-zero code ok n written w
+
+  at-codeword : isCodeword code n (allOnes n) ≡ true → ⊥
+  at-codeword c =
+      let k = sized code ok n written w in
+      never
+      (ones-codeword code able n (k .from) (k .upTo) (the-frame code ok n written w) (frameOf n received) (square code ok n written w)
+      (frameOf-square n received) (whole code ok n written w) (in-class code ok n written w received s) all c)
+
+  at-row : (i : ℕ) → i < n → ((j : ℕ) → j < n → bitAt written (i * stride n + j) ≡ bitAt received (i * stride n + j)) → ⊥
+  at-row i l same =
+      let k = sized code ok n written w in
+      never
+      (row-unharmed code able n (k .from) (k .upTo) (the-frame code ok n written w) (frameOf n received) (square code ok n written w)
+      (frameOf-square n received) (whole code ok n written w) (in-class code ok n written w received s) all i l
+      (ap (λ (f : Frame). row f i) (sym (is-the-frame code ok n written w)) ∙ same-row n written received i l same))
+
+  at-column : (j : ℕ) → j < n → ((i : ℕ) → i < n → bitAt written (i * stride n + j) ≡ bitAt received (i * stride n + j)) → ⊥
+  at-column j l same =
+      let k = sized code ok n written w in
+      never
+      (column-unharmed code able n (k .from) (k .upTo) (the-frame code ok n written w) (frameOf n received) (square code ok n written w)
+      (frameOf-square n received) (whole code ok n written w) (in-class code ok n written w received s) all j l
+      (ap (λ (f : Frame). row (transposed n f) j) (sym (is-the-frame code ok n written w)) ∙ same-column n written received j l same))
 
 -- a success with the written frame, and the count
 module _ (code : Code) (able : Mends code) (n a : ℕ) (written received output : List ℕ) (w : Written code n written) (s : Spoiled code n written received) where
@@ -176,26 +258,26 @@ module _ (code : Code) (able : Mends code) (n a : ℕ) (written received output 
           → (decodeOutput code n a received output ≡ written)
           × (figuresOf (decodeSaid code n a received output) .bits ≡ wrongBits n written received)
       go (yes z) =
-          let said : decodeSaid code n a received output ≡ told o = at-zero r (told o) (refused r) z in
+          let said : decodeSaid code n a received output ≡ told o = at-zero r (told o) (undecoded r) z in
           let k = counts-here z (sym (ap number said) ∙ e) in
           (k .0, ap (λ d. figuresOf d .bits) said ∙ k .1)
-      go (no z) = absurd (z (sym (ap number (decode-refused code n a received output z .0)) ∙ e))
+      go (no z) = absurd (z (sym (ap number (decode-refused code n a received output z .0) ∙ undecoded-number r) ∙ e))
 
-back-here : (code : Code) (able : Mends code) → BackAt code (radius code)
+back-here : (code : Code) (able : Mends code) → BackAt code (radius code) NotErased
 unfolding decodeSaid
-back-here code able n a written received output w s lo hi lent =
+back-here code able n a written received output w s seen lo hi lent =
     let g : Frame = the-frame code (able .sound) n written w in
     let p : Outcome = decoded code n a (frameOf n received) in
     let q : ℕ = decodeRefusal code n a received output in
     let k = sized code (able .sound) n written w in
     let z : q ≡ 0 =
     decode-accepts code n a received output .1
-    (record { from = k .from; upTo = k .upTo; taken = s .0; lent = lent }, (omega arith, hi)) in
+    (record { from = k .from; upTo = k .upTo; taken = s .0; lent = lent }, (omega arith, hi), not-erased n (frameOf n received) seen) in
     let b : Restored g p =
     repairs-frames code able n a (k .from) (k .upTo) lo g (frameOf n received) (square code (able .sound) n written w) (frameOf-square n received)
     (whole code (able .sound) n written w) (in-class code (able .sound) n written w received s) in
     let e : number (told p) ≡ 0 = success-zero p (b .success) in
-    let said : decodeSaid code n a received output ≡ told p = at-zero q (told p) (refused q) z in
+    let said : decodeSaid code n a received output ≡ told p = at-zero q (told p) (undecoded q) z in
     record {
       zero = ap number said ∙ e;
       bytes = counts-here code able n a written received output w s z e .0;
@@ -216,25 +298,37 @@ apart-here code able n written written′ received received′ w w′ different 
     (in-class code (able .sound) n written w received s) (rw e (in-class code (able .sound) n written′ w′ received′ s′)))
     ∙ sym (is-bytes code (able .sound) n written′ w′))
 
-wordOf-ext :
-    (n : ℕ) (s t : List ℕ) (start : ℕ) → ((j : ℕ) → j < n → bitAt s (start + j) ≡ bitAt t (start + j)) → wordOf n s start ≡ wordOf n t start
-wordOf-ext n s t start h =
-    word-ext n (wordOf n s start) (wordOf n t start) (wordOf-length n s start) (wordOf-length n t start)
-    (λ j l. wordOf-bit n s start j l ∙ h j l ∙ sym (wordOf-bit n t start j l))
+some-row-here :
+    (n : ℕ) (written received : List ℕ) → wrongBits n written received < n
+    → (i : ℕ) × (i < n) × ((j : ℕ) → j < n → bitAt written (i * stride n + j) ≡ bitAt received (i * stride n + j))
+unfolding differences
+some-row-here n written received few =
+    let z = total-few n (λ i. differ (row (frameOf n written) i) (row (frameOf n received) i)) few in (
+      z .0,
+      z .1,
+      λ j m.
+          sym (frameOf-cell n written (z .0) j (z .1) m)
+          ∙ ap (λ (w : Word). bit w j)
+          (differ-zero (row (frameOf n written) (z .0)) (row (frameOf n received) (z .0))
+          (frameOf-square n written .1 (z .0) (z .1) ∙ sym (frameOf-square n received .1 (z .0) (z .1))) (z .2))
+          ∙ frameOf-cell n received (z .0) j (z .1) m,
+    )
 
 pub repairs : (code : Code) (able : Mends code) → RepairPromise code
 repairs code able =
     record {
       back = back-here code able;
+      row-unharmed = λ n written received w s i l same all. at-row code able n written received w s all i l same;
+      column-unharmed = λ n written received w s j l same all. at-column code able n written received w s all j l same;
+      ones-codeword = λ n written received w s c all. at-codeword code able n written received w s all c;
       counts = counts-said code able;
       apart = apart-here code able;
       few-bits = λ n written received long d. (long, few-wrong (radius code) n (frameOf n written) (frameOf n received) d);
+      some-row = some-row-here;
       rows-lost = λ n written received lost few long same. (
         long,
         rows-gone (radius code) n (frameOf n written) (frameOf n received) lost few
-            (λ i l out.
-            frameOf-row n written i l
-            ∙ wordOf-ext n written received (i * stride n) (λ j m. same i j l m out) ∙ sym (frameOf-row n received i l)),
+            (λ i l out. same-row n written received i l (λ j m. same i j l m out)),
       );
       columns-lost = λ n written received lost few long same. (
         long,

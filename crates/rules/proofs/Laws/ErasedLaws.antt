@@ -1,0 +1,82 @@
+-- A square that reads as erased: by its bits, by its rows and columns, and by its data.
+-- Assumes nothing.
+use mathlib.Core.Path.{_≡_, refl, sym, ap, _∙_}
+use mathlib.Core.Logic.{_↔_}
+use mathlib.Core.Bool.{Bool, true, false, true≢false}
+use Prim.Native.Nat.{ℕ, _≤_, _<_}
+use native.Mathlib.Omega.{arith}
+use Rattle.algebra.specs.Tables.{tab, every}
+use Rattle.algebra.specs.Words.{Word, bit}
+use Rattle.algebra.proofs.TableLaws.{tab-length, every-each}
+use Rattle.rules.specs.Codes.{Code, dataBits}
+use Rattle.rules.specs.Words.{isCodeword}
+use Rattle.rules.specs.Frames.{Frame, Square, row, cell, transposed, isFrame, isErased, corner}
+use Rattle.rules.proofs.Laws.Shape.{word-ext, square-ext, square-tab, bit-tab, row-tab, cell-tab, transposed-square, transposed-cell, corner-cell}
+use Rattle.rules.proofs.Laws.FrameLaws.{Rows, rows-columns-frame}
+
+-- a word of n ones, and a square of them
+unfoldable pub allOnes : ℕ → Word
+allOnes n = tab n (λ j. true)
+
+unfoldable pub onesSquare : ℕ → Frame
+onesSquare n = tab n (λ i. tab n (λ j. true))
+
+-- a one in every place
+abbrev pub AllOnes : ℕ → Frame → Type 0
+AllOnes n f = (i j : ℕ) → i < n → j < n → cell f i j ≡ true
+
+pub erased-ones : (n : ℕ) (f : Frame) → (isErased n f ≡ true) ↔ AllOnes n f
+unfolding isErased
+erased-ones n f = (
+  λ h i j l m. every-each n (λ j. cell f i j) .0 (every-each n (λ i. every n (λ j. cell f i j)) .0 h i l) j m,
+  λ h. every-each n (λ i. every n (λ j. cell f i j)) .1 (λ i l. every-each n (λ j. cell f i j) .1 (λ j m. h i j l m)),
+)
+
+pub not-erased : (n : ℕ) (f : Frame) → ¬ AllOnes n f → isErased n f ≡ false
+not-erased n f h = go (isErased n f) refl
+  where
+    go : (b : Bool) → isErased n f ≡ b → isErased n f ≡ false
+    go true e = absurd (h (erased-ones n f .0 e))
+    go false e = e
+
+pub not-ones : (n : ℕ) (f : Frame) → isErased n f ≡ false → ¬ AllOnes n f
+not-ones n f h k = true≢false (sym (erased-ones n f .1 k) ∙ h)
+
+-- ---- the square of ones
+
+pub ones-square : (n : ℕ) → Square n (onesSquare n)
+unfolding onesSquare
+ones-square n = square-tab n (λ i j. true)
+
+pub ones-cells : (n : ℕ) → AllOnes n (onesSquare n)
+unfolding onesSquare
+ones-cells n i j l m = cell-tab n (λ i j. true) i j l m
+
+-- there is no other
+pub ones-only : (n : ℕ) (f : Frame) → Square n f → AllOnes n f → f ≡ onesSquare n
+ones-only n f s h = square-ext n f (onesSquare n) s (ones-square n) (λ i j l m. h i j l m ∙ sym (ones-cells n i j l m))
+
+ones-row : (n : ℕ) (i : ℕ) → i < n → row (onesSquare n) i ≡ allOnes n
+unfolding onesSquare allOnes
+ones-row n i l = row-tab n (λ i. tab n (λ j. true)) i l
+
+ones-turned : (n : ℕ) → transposed n (onesSquare n) ≡ onesSquare n
+ones-turned n =
+    ones-only n (transposed n (onesSquare n)) (transposed-square n (onesSquare n))
+    (λ i j l m. transposed-cell n (onesSquare n) i j l m ∙ ones-cells n j i m l)
+
+-- it is a frame where its rows are codewords
+pub ones-frame : (code : Code) (n : ℕ) → isCodeword code n (allOnes n) ≡ true → isFrame code n (onesSquare n) ≡ true
+ones-frame code n h =
+    let rows : Rows code n (onesSquare n) = λ i l. ap (isCodeword code n) (ones-row n i l) ∙ h in
+    rows-columns-frame code n (onesSquare n) rows (rw (ones-turned n) rows)
+
+-- a row of ones
+pub row-ones : (n : ℕ) (f : Frame) (i : ℕ) → i < n → Square n f → ((j : ℕ) → j < n → cell f i j ≡ true) → row f i ≡ allOnes n
+unfolding allOnes
+row-ones n f i l s h =
+    word-ext n (row f i) (tab n (λ j. true)) (s .1 i l) (tab-length n (λ j. true)) (λ j m. h j m ∙ sym (bit-tab n (λ j. true) j m))
+
+-- its corner is one too
+pub corner-ones : (k n : ℕ) (f : Frame) → k ≤ n → AllOnes n f → AllOnes k (corner k f)
+corner-ones k n f le h i j l m = corner-cell k f i j l m ∙ h i j (omega arith) (omega arith)
