@@ -220,3 +220,24 @@ every-each (suc n) p = (
     go : (i : ℕ) → p n ≡ true → ((i : ℕ) → i < n → p i ≡ true) → Dec (i < n) → i < suc n → p i ≡ true
     go i last before (yes l) m = before i l
     go i last before (no l) m = let e : i ≡ n = omega (arith, l) in ap p e ∙ last
+
+pub every-none : (p : ℕ → Bool) → true ≡ every 0 p
+unfolding every
+every-none p = refl
+
+pub every-next : (n : ℕ) (p : ℕ → Bool) → true ≡ every n p → p n ≡ true → true ≡ every (n + 1) p
+unfolding every
+every-next n p h e = rw (add-one n) (sym (and-eq-true-iff (p n) (every n p) .1 (e, sym h)))
+
+-- one fails
+pub every-fails : (n : ℕ) (p : ℕ → Bool) (i : ℕ) → i < n → p i ≡ false → false ≡ every n p
+every-fails n p i l e = go (every n p) refl
+  where
+    go : (b : Bool) → every n p ≡ b → false ≡ b
+    go true h = sym e ∙ every-each n p .0 h i l
+    go false h = refl
+
+pub every-ext : (n : ℕ) (p q : ℕ → Bool) → ((i : ℕ) → i < n → p i ≡ q i) → every n p ≡ every n q
+unfolding every
+every-ext zero p q h = refl
+every-ext (suc n) p q h = ap₂ _&&_ (h n (omega arith)) (every-ext n p q (λ i l. h i (omega arith)))

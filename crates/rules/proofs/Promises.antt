@@ -22,3 +22,4 @@ pub mod Promised
 -- The bench items
 pub mod Bench
 pub mod Erased
+pub mod Premise

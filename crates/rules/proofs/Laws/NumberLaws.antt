@@ -1,6 +1,6 @@
 -- The checks of the entry points: when each accepts, which numbers can occur, and what is said and written by the number.
 -- Assumes nothing.
-use mathlib.Core.Path.{_≡_, refl, sym, ap}
+use mathlib.Core.Path.{_≡_, refl, sym, ap, _∙_}
 use mathlib.Core.Logic.{_≢_, _↔_, _⊎_, inl, inr, Iff·trans, Iff·rfl, Iff·and}
 use mathlib.Core.Bool.{Bool, true, false, not, _&&_, true≢false}
 use mathlib.Core.List.{List, [], _∷_, map}
@@ -14,7 +14,7 @@ use Rattle.rules.specs.Words.{isIn, answer, mend}
 use Rattle.rules.specs.Frames.{isFrame, isErased, corner}
 use Rattle.rules.specs.Bits.{rowBytes, wordOf, frameOf, wordBytes, bytesOf, spareOnes}
 use Rattle.rules.specs.Passes.{Ending, clean, repaired, stuck, spent, Outcome, decoded}
-use Rattle.rules.specs.Numbers.{told, handedOut, ended, number, Figures, figuresOf, mostAllowed, pick, notAllowed, dataBytes, frameBytes, encodeNumber, encodeOutput, frameFor, readNumber, readOutput, refused, erased, undecoded, decodeRefusal, decodeSaid, decodeOutput, wordRefused, answered, wordRefusal, wordSaid, wordNumber, wordOutput, RefusalList, first, sizeRefusals, encodeRefusals, readRefusals, decodeRefusals, wordRefusals}
+use Rattle.rules.specs.Numbers.{told, handedOut, ended, number, Figures, figuresOf, mostAllowed, pick, outside, notLong, notAllowed, dataBytes, frameBytes, encodeNumber, encodeOutput, frameFor, readNumber, readOutput, refused, erased, undecoded, decodeRefusal, decodeSaid, decodeOutput, wordRefused, answered, wordRefusal, wordSaid, wordNumber, wordOutput, RefusalList, first, sizeRefusals, encodeRefusals, readRefusals, decodeRefusals, wordRefusals}
 use Rattle.rules.proofs.Laws.OneOfLaws.{OneOf, one-of-self, one-of-cons, one-of-back, one-of-front, none-of-cons}
 
 -- ---- a list of checks
@@ -155,6 +155,33 @@ word-accepts code n input output =
     Iff·trans (first-clear (wordRefusals code n input output) refl)
     (Iff·trans (sized code n input (rowBytes n) output (rowBytes n) []) (λ h. h .0, λ f. (f, tt)))
 
+-- when encoding gives 10: it would accept but for that
+pub encode-erased :
+    (code : Code) (n : ℕ) (input output : List ℕ)
+    → (encodeNumber code n input output ≡ 10)
+    ↔ (Sized code n input (dataBytes code n) output (frameBytes n) × (spareOnes (dataBits code n) input ≡ 0) × (isErased n (frameFor code n input) ≡ true))
+unfolding encodeNumber
+encode-erased code n input output =
+    Iff·trans
+    (first-last (outside code n) (notLong input (dataBytes code n)) (notLong output (frameBytes n)) (not (eqb (spareOnes (dataBits code n) input) 0))
+    (isErased n (frameFor code n input)))
+    (λ t. (sized code n input (dataBytes code n) output (frameBytes n) [] .0 (t .0, (t .1, (t .2, tt))) .0, equal-test (spareOnes (dataBits code n) input) 0 .0 (t .3), t .4),
+    λ t.
+    let c = sized code n input (dataBytes code n) output (frameBytes n) [] .1 (t .0, tt) in
+    (c .0, c .1 .0, c .1 .1 .0, equal-test (spareOnes (dataBits code n) input) 0 .1 (t .1), t .2))
+  where
+    -- only the last of five checks applies
+    first-last :
+        (a b c d e : Bool)
+        → (first ((a, 1) ∷ (b, 2) ∷ (c, 3) ∷ (d, 5) ∷ (e, 10) ∷ []) ≡ 10)
+        ↔ ((a ≡ false) × (b ≡ false) × (c ≡ false) × (d ≡ false) × (e ≡ true))
+    first-last true b c d e = (λ h. absurd (omega arith), λ h. absurd (true≢false (h .0)))
+    first-last false true c d e = (λ h. absurd (omega arith), λ h. absurd (true≢false (h .1)))
+    first-last false false true d e = (λ h. absurd (omega arith), λ h. absurd (true≢false (h .2)))
+    first-last false false false true e = (λ h. absurd (omega arith), λ h. absurd (true≢false (h .3)))
+    first-last false false false false true = (λ h. (refl, refl, refl, refl, refl), λ h. refl)
+    first-last false false false false false = (λ h. absurd (omega arith), λ h. absurd (true≢false (sym (h .4))))
+
 -- ---- what is said or written, by the number
 
 pub at-zero {ℓ} : {A : Type ℓ} (r : ℕ) (x y : A) → r ≡ 0 → pick (eqb r 0) x y ≡ x
@@ -192,6 +219,18 @@ decode-refused code n allowance input output h =
     let r : ℕ = decodeRefusal code n allowance input output in
     let o : Outcome = decoded code n allowance (frameOf n input) in
     (at-other r (told o) (undecoded r) h, at-other r (handedOut n input o) output h)
+
+-- the checks before it passed, and all code bits are ones
+pub decode-erased :
+    (code : Code) (n allowance : ℕ) (input output : List ℕ) → Sized code n input (frameBytes n) output (frameBytes n)
+    → (1 ≤ allowance) × (allowance ≤ mostAllowed) → isErased n (frameOf n input) ≡ true
+    → (decodeSaid code n allowance input output ≡ erased) × (decodeOutput code n allowance input output ≡ output)
+unfolding decodeRefusal
+decode-erased code n allowance input output f a e =
+    let c = sized code n input (frameBytes n) output (frameBytes n) [] .1 (f, tt) in
+    let z : decodeRefusal code n allowance input output ≡ 10 = rw (c .0, c .1 .0, c .1 .1 .0, range-test 1 mostAllowed allowance .1 a, e) in
+    let r = decode-refused code n allowance input output (λ h. omega arith) in
+    (r .0 ∙ ap undecoded z, r .1)
 
 pub word-refused :
     (code : Code) (n : ℕ) (input output : List ℕ) → wordRefusal code n input output ≢ 0

@@ -1,32 +1,138 @@
--- RULES 6, number 10: which data it is given for, and that demand 3 needs its premise.
+-- RULES 6, number 10: the data that it is given for, and that demand 3 needs its premise.
 -- Assumes nothing.
 use mathlib.Core.Path.{_≡_, refl, sym, ap, _∙_}
-use mathlib.Core.Logic.{_≢_, _↔_}
-use mathlib.Core.Bool.{Bool, true, false, not, _&&_, _||_, true≢false}
-use mathlib.Core.List.{List, [], _∷_, _++_}
-use Prim.Native.Nat.{ℕ, suc, _+_, _≤_, _<_}
+use mathlib.Core.Logic.{_≢_, _↔_, _⊎_, inl, inr, Iff·trans}
+use mathlib.Core.Bool.{Bool, true, false, not, _&&_, _||_, true≢false, false≢true}
+use mathlib.Core.List.{List, [], _∷_}
+use Prim.Native.Nat.{ℕ, _+_, _-_, _≤_, _<_}
 use native.Mathlib.Omega.{arith}
 use lib.Dec.{eqb}
-use lib.ListN.{length, replicate}
-use borrow.Author.Tests.{eqb-true, eq-eqb}
+use lib.ListN.{length, getD, replicate, drop}
+use borrow.Author.Tests.{eqb-true}
 use Rattle.algebra.specs.Tables.{tab, every}
-use Rattle.algebra.specs.Words.{bit}
 use Rattle.algebra.proofs.TableLaws.{every-each}
 use Rattle.rules.specs.Codes.{Code, radius, dataBits, smallCode}
 use Rattle.rules.specs.Words.{isCodeword}
 use Rattle.rules.specs.Frames.{Frame, Square, isFrame, isErased, corner}
 use Rattle.rules.specs.Bits.{frameOf, bytesOf, spareOnes}
-use Rattle.rules.specs.Numbers.{dataBytes, frameBytes, frameFor, encodeNumber}
+use Rattle.rules.specs.Passes.{repaired, differences, good, decoded}
+use Rattle.rules.specs.Numbers.{dataBytes, frameBytes, frameFor, encodeNumber, encodeOutput, erased, number, decodeRefusal, decodeSaid}
+use Rattle.rules.specs.Damage.{spoilt}
 use Rattle.rules.proofs.Laws.CodeLaws.{Sound}
 use Rattle.rules.proofs.Laws.SmallCode.{sound-small}
+use Rattle.rules.proofs.Laws.Shape.{square-tab, corner-square, frameOf-square}
+use Rattle.rules.proofs.Laws.FrameLaws.{frame-rows}
+use Rattle.rules.proofs.Laws.ErasedLaws.{allOnes, onesSquare, AllOnes, erased-ones, not-erased, ones-square, ones-cells, ones-only, ones-frame, row-ones, corner-ones}
+use Rattle.rules.proofs.Laws.PackLaws.{bytesOf-length, frame-of-bytes, bytes-of-frame, spares-of-bytes}
+use Rattle.rules.proofs.Laws.NumberLaws.{Sized, encode-accepts, encode-erased, at-zero}
 use Rattle.rules.proofs.Laws.Computing.{computing}
-use Rattle.rules.proofs.Laws.ErasedLaws.{allOnes}
+use Rattle.rules.proofs.Promises.Encoding.{Encoded, encoding}
+use Rattle.rules.proofs.Promises.Repair.{Written, Back, BackAt}
+
+-- ---- The statements
+
+-- of any code: a frame of ones is that of data of ones, at an n at which the word of ones is a codeword
+abbrev pub OnesPromise : Code → Type 0
+OnesPromise code =
+    (n : ℕ) (input : List ℕ) → code .shortest ≤ n
+    → (isErased n (frameFor code n input) ≡ true)
+    ↔ ((isCodeword code n (allOnes n) ≡ true) × AllOnes (dataBits code n) (frameOf (dataBits code n) input))
+
+-- of the small code
+pub record SmallOnes : Type 0 where
+  -- such an n is 256 alone
+  pub at-256 : (n : ℕ) → 18 ≤ n → n ≤ 256 → (isCodeword smallCode n (allOnes n) ≡ true) ↔ (n ≡ 256)
+  -- so encoding gives 10 for one message alone: 239 rows of 239 ones
+  pub one-message :
+      (n : ℕ) (input output : List ℕ) → ((p : ℕ) → getD input p 0 < 256)
+      → (encodeNumber smallCode n input output ≡ 10)
+      ↔ ((n ≡ 256) × (input ≡ bytesOf 239 (onesSquare 239)) × (length output ≡ frameBytes 256))
+
+-- ---- Data of ones
+
+module _ (code : Code) (ok : Sound code) (n : ℕ) (input : List ℕ) (le : code .shortest ≤ n) where
+  abbrev k : ℕ
+  k = dataBits code n
+
+  abbrev f : Frame
+  f = frameFor code n input
+
+  made : Encoded code n (frameOf k input)
+  made = encoding code ok n (frameOf k input) le (frameOf-square k input)
+
+  from-ones : isErased n f ≡ true → (isCodeword code n (allOnes n) ≡ true) × AllOnes k (frameOf k input)
+  from-ones e =
+      let all = erased-ones n f .0 e in
+      let first : 0 < n = omega (arith, ok .room) in (
+        ap (isCodeword code n) (sym (row-ones n f 0 first (made .square) (λ j m. all 0 j first m))) ∙ frame-rows code n f (made .frame) 0 first,
+        rw (← made .holds) (corner-ones k n f (omega arith) all),
+      )
+
+  to-ones : isCodeword code n (allOnes n) ≡ true → AllOnes k (frameOf k input) → isErased n f ≡ true
+  to-ones c all =
+      let s = ones-square n in
+      let e : onesSquare n ≡ f =
+      made .only (onesSquare n) s (ones-frame code n c)
+      (ones-only k (corner k (onesSquare n)) (corner-square k (onesSquare n)) (corner-ones k n (onesSquare n) (omega arith) (ones-cells n))
+      ∙ sym (ones-only k (frameOf k input) (frameOf-square k input) all)) in
+      erased-ones n f .1 (rw (← e) (ones-cells n))
+
+pub ones-promise : (code : Code) (ok : Sound code) → OnesPromise code
+ones-promise code ok n input le = (from-ones code ok n input le, λ p. to-ones code ok n input le (p .0) (p .1))
+
+-- ---- The one length
 
 -- one test for all lengths
-test : every 239 (λ i. not (isCodeword smallCode (18 + i) (allOnes (18 + i))) || eqb (18 + i) 256) ≡ true
+tested : every 239 (λ i. not (isCodeword smallCode (18 + i) (allOnes (18 + i))) || eqb (18 + i) 256) ≡ true
 unfolding computing allOnes
-test = refl
+tested = refl
 
-at256 : isCodeword smallCode 256 (allOnes 256) ≡ true
+at-longest : isCodeword smallCode 256 (allOnes 256) ≡ true
 unfolding computing allOnes
-at256 = refl
+at-longest = refl
+
+one-length : (n : ℕ) → 18 ≤ n → n ≤ 256 → (isCodeword smallCode n (allOnes n) ≡ true) ↔ (n ≡ 256)
+one-length n lo hi = (
+  λ c. go (isCodeword smallCode n (allOnes n)) c
+      (let e : 18 + (n - 18) ≡ n = omega arith in
+      rw e at (every-each 239 (λ i. not (isCodeword smallCode (18 + i) (allOnes (18 + i))) || eqb (18 + i) 256) .0 tested (n - 18) (omega arith))),
+  λ e. rw e at-longest,
+)
+  where
+    go : (b : Bool) → b ≡ true → (not b || eqb n 256) ≡ true → n ≡ 256
+    go true c h = eqb-true n 256 h
+    go false c h = absurd (false≢true c)
+
+-- ---- The one message
+
+one-message-here :
+    (n : ℕ) (input output : List ℕ) → ((p : ℕ) → getD input p 0 < 256)
+    → (encodeNumber smallCode n input output ≡ 10)
+    ↔ ((n ≡ 256) × (input ≡ bytesOf 239 (onesSquare 239)) × (length output ≡ frameBytes 256))
+one-message-here n input output bytes = (there, λ p. back (p .0) (p .1) (p .2))
+  where
+    there : encodeNumber smallCode n input output ≡ 10 → (n ≡ 256) × (input ≡ bytesOf 239 (onesSquare 239)) × (length output ≡ frameBytes 256)
+    there h =
+        let a = encode-erased smallCode n input output .0 h in
+        let t = from-ones smallCode sound-small n input (a .0 .from) (a .2) in
+        let e : n ≡ 256 = one-length n (a .0 .from) (a .0 .upTo) .0 (t .0) in
+        let d : dataBits smallCode n ≡ 239 = ap (dataBits smallCode) e in (
+          e,
+          sym (bytes-of-frame (dataBits smallCode n) input (a .0 .taken) bytes (a .1))
+              ∙ ap (bytesOf (dataBits smallCode n)) (ones-only (dataBits smallCode n) (frameOf (dataBits smallCode n) input) (frameOf-square (dataBits smallCode n) input) (t .1))
+              ∙ ap (λ (m : ℕ). bytesOf m (onesSquare m)) d,
+          a .0 .lent ∙ ap frameBytes e,
+        )
+
+    back : n ≡ 256 → input ≡ bytesOf 239 (onesSquare 239) → length output ≡ frameBytes 256 → encodeNumber smallCode n input output ≡ 10
+    back e i l =
+        let framed : frameOf 239 input ≡ onesSquare 239 = ap (frameOf 239) i ∙ frame-of-bytes 239 (onesSquare 239) (ones-square 239) in
+        rw e
+        (encode-erased smallCode 256 input output .1 (
+          record { from = omega arith; upTo = omega arith; taken = ap length i ∙ bytesOf-length 239 (onesSquare 239); lent = l },
+          ap (spareOnes 239) i ∙ spares-of-bytes 239 (onesSquare 239) (ones-square 239),
+          to-ones smallCode sound-small 256 input (omega arith) at-longest (rw framed (ones-cells 239)),
+        ))
+
+pub small-ones : SmallOnes
+small-ones = record { at-256 = one-length; one-message = one-message-here }
