@@ -11,13 +11,13 @@ use borrow.Author.Tests.{le-leb, lt-leb, ltb-true, ltb-false}
 use lib.Dec.{ltb}
 use lib.ListN.{length, take, drop}
 use Rattle.rules.specs.Codes.{Code}
-use Rattle.rules.specs.Frames.{Frame}
+use Rattle.rules.specs.Frames.{Frame, isErased}
 use Rattle.rules.specs.Bits.{squareBytes, frameOf, bytesOf}
 use Rattle.rules.specs.Passes.{Outcome, decoded}
-use Rattle.rules.specs.Numbers.{RefusalList, first, told, handedOut, refused, mostAllowed, outside, notAllowed, decodeRefusals, decodeRefusal, decodeSaid, decodeOutput}
+use Rattle.rules.specs.Numbers.{RefusalList, first, told, handedOut, refused, erased, undecoded, mostAllowed, outside, notAllowed, decodeRefusals, decodeRefusal, decodeSaid, decodeOutput}
 use Rattle.rules.proofs.Laws.Shape.{frameOf-square}
 use Rattle.rules.proofs.Laws.PackLaws.{bytesOf-length, frame-of-bytes}
-use Rattle.rules.proofs.Laws.NumberLaws.{Sized, range-test, decode-accepts, decode-refused, at-zero}
+use Rattle.rules.proofs.Laws.NumberLaws.{Sized, range-test, decode-accepts, decode-refused, decode-erased, at-zero}
 use Rattle.laws.specs.Turns.{cornered}
 use Rattle.laws.proofs.RefusalLaws.{size-1, size-2, size-3, size-later}
 use Rattle.laws.proofs.CornerLaws.{cornered-whole}
@@ -47,10 +47,12 @@ module _ (code : Code) (n a : ℕ) (input output : List ℕ) where
   abbrev later : RefusalList
   later = drop 3 (decodeRefusals code n a input output)
 
-  numbered : (k : ℕ) → first (decodeRefusals code n a input output) ≡ suc k → Refused (suc k)
+  numbered :
+      (k : ℕ) → first (decodeRefusals code n a input output) ≡ suc k
+      → (decodeSaid code n a input output ≡ undecoded (suc k)) × (decodeOutput code n a input output ≡ output)
   unfolding decodeRefusal
   numbered k e =
-      let r = decode-refused code n a input output (λ z. absurd (omega arith)) in (r .0 ∙ ap refused e, r .1)
+      let r = decode-refused code n a input output (λ z. absurd (omega arith)) in (r .0 ∙ ap undecoded e, r .1)
 
   pub refused-1 : outside code n ≡ true → Refused 1
   refused-1 h = numbered 0 (size-1 code n input (squareBytes n) output (squareBytes n) later h)
@@ -63,6 +65,11 @@ module _ (code : Code) (n a : ℕ) (input output : List ℕ) where
 
   pub refused-4 : Sized code n input (squareBytes n) output (squareBytes n) → notAllowed a ≡ true → Refused 4
   refused-4 f h = numbered 3 (size-later code n input (squareBytes n) output (squareBytes n) later f ∙ rw h)
+
+  pub erased-10 :
+      Sized code n input (squareBytes n) output (squareBytes n) → notAllowed a ≡ false → isErased n (frameOf n input) ≡ true
+      → (decodeSaid code n a input output ≡ erased) × (decodeOutput code n a input output ≡ output)
+  erased-10 f h e = decode-erased code n a input output f (range-test 1 mostAllowed a .0 h) e
 
 -- ---- all are passed
 
@@ -78,11 +85,13 @@ pub record Accepted (code : Code) (n a : ℕ) (input output : List ℕ) : Type 0
   pub sized : Sized code n input (squareBytes n) output (squareBytes n)
   pub some : 1 ≤ a
   pub most : a ≤ mostAllowed
+  pub seen : isErased n (frameOf n input) ≡ false
 
 pub accept :
-    (code : Code) (n a : ℕ) (input output : List ℕ) → Sized code n input (squareBytes n) output (squareBytes n) → notAllowed a ≡ false → Accepted code n a input output
-accept code n a input output f h =
-    let m = range-test 1 mostAllowed a .0 h in record { sized = f; some = m .0; most = m .1 }
+    (code : Code) (n a : ℕ) (input output : List ℕ) → Sized code n input (squareBytes n) output (squareBytes n) → notAllowed a ≡ false
+    → isErased n (frameOf n input) ≡ false → Accepted code n a input output
+accept code n a input output f h e =
+    let m = range-test 1 mostAllowed a .0 h in record { sized = f; some = m .0; most = m .1; seen = e }
 
 pub accepted :
     (code : Code) (n a : ℕ) (input output : List ℕ) → Accepted code n a input output
@@ -92,8 +101,8 @@ unfolding decodeSaid decodeOutput
 accepted code n a input output h =
     let r : ℕ = decodeRefusal code n a input output in
     let o : Outcome = decoded code n a (frameOf n input) in
-    let z : r ≡ 0 = decode-accepts code n a input output .1 (h .sized, (h .some, h .most)) in
-    (at-zero r (told o) (refused r) z, at-zero r (handedOut n input o) output z)
+    let z : r ≡ 0 = decode-accepts code n a input output .1 (h .sized, (h .some, h .most), h .seen) in
+    (at-zero r (told o) (undecoded r) z, at-zero r (handedOut n input o) output z)
 
 -- the received bytes fit over the frame, and copied there they are all of it
 module _ (n : ℕ) (input t : List ℕ) (f : Frame) (long : length input ≡ squareBytes n) (framed : t ≡ bytesOf n f) where

@@ -15,9 +15,9 @@ use Rattle.algebra.specs.Words.{Word, bit}
 use Rattle.algebra.proofs.TableLaws.{tab-length, tab-ext}
 use Rattle.rules.specs.Codes.{Code, dataBits}
 use Rattle.rules.specs.Words.{encodeWord}
-use Rattle.rules.specs.Frames.{Frame, row, cell, transposed, rowsFirst, Square}
+use Rattle.rules.specs.Frames.{Frame, row, cell, transposed, isErased, rowsFirst, Square}
 use Rattle.rules.specs.Bits.{squareBytes, frameOf, bytesOf, spareOnes}
-use Rattle.rules.specs.Numbers.{outside, RefusalList, first, dataBytes, frameBytes, encodeRefusals, encodeNumber, encodeOutput}
+use Rattle.rules.specs.Numbers.{outside, RefusalList, first, dataBytes, frameBytes, encodeRefusals, frameFor, encodeNumber, encodeOutput}
 use Rattle.rules.proofs.Laws.CodeLaws.{Sound}
 use Rattle.rules.proofs.Laws.Shape.{word-ext, bit-tab, row-tab, transposed-row, frameOf-square}
 use Rattle.rules.proofs.Laws.PackLaws.{bytesOf-length, frame-of-bytes}
@@ -196,11 +196,16 @@ module _ (code : Code) (n : ℕ) (input output : List ℕ) where
   pub answer-5 : Sized code n input (dataBytes code n) output (frameBytes n) → eqb (spareOnes (dataBits code n) input) 0 ≡ false → EncodedAs code n input output 5 output
   answer-5 f h = refuses 4 (size-later code n input (dataBytes code n) output (frameBytes n) later f ∙ rw h)
 
+  pub answer-10 :
+      Sized code n input (dataBytes code n) output (frameBytes n) → eqb (spareOnes (dataBits code n) input) 0 ≡ true
+      → isErased n (frameFor code n input) ≡ true → EncodedAs code n input output 10 output
+  answer-10 f h e = refuses 9 (size-later code n input (dataBytes code n) output (frameBytes n) later f ∙ rw (h, e))
+
   pub answer-0 :
       {t : List ℕ} → Sized code n input (dataBytes code n) output (frameBytes n) → eqb (spareOnes (dataBits code n) input) 0 ≡ true
-      → t ≡ bytesOf n (rowsFirst code n (frameOf (dataBits code n) input)) → EncodedAs code n input output 0 t
+      → isErased n (frameFor code n input) ≡ false → t ≡ bytesOf n (frameFor code n input) → EncodedAs code n input output 0 t
   unfolding encodeOutput
-  answer-0 f h e =
+  answer-0 f h s e =
       let z : encodeNumber code n input output ≡ 0 =
-      encode-accepts code n input output .1 (f, eqb-true (spareOnes (dataBits code n) input) 0 h) in
-      (sym z, e ∙ sym (at-zero (encodeNumber code n input output) (bytesOf n (rowsFirst code n (frameOf (dataBits code n) input))) output z))
+      encode-accepts code n input output .1 (f, eqb-true (spareOnes (dataBits code n) input) 0 h, s) in
+      (sym z, e ∙ sym (at-zero (encodeNumber code n input output) (bytesOf n (frameFor code n input)) output z))

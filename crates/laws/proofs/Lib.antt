@@ -16,6 +16,7 @@ pub mod SettleLaws
 pub mod TurnLaws
 pub mod CornerLaws
 pub mod CountLaws
+pub mod ErasedLaws
 pub mod PassLoopLaws
 pub mod PassStepLaws
 -- The entry points

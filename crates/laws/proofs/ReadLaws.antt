@@ -11,7 +11,7 @@ use lib.Dec.{eqb, leb, ltb}
 use lib.ListN.{length, take, drop}
 use borrow.Author.Tests.{eq-eqb, ne-eqb, lt-ltb, le-ltb, le-leb, lt-leb}
 use Rattle.rules.specs.Codes.{Code, dataBits, lengthLimit}
-use Rattle.rules.specs.Frames.{corner, badRows, isFrame}
+use Rattle.rules.specs.Frames.{corner, badRows, isFrame, isErased}
 use Rattle.rules.specs.Bits.{rowBytes, squareBytes, frameOf, bytesOf}
 use Rattle.rules.specs.Numbers.{outside, RefusalList, first, frameBytes, dataBytes, readRefusals, readNumber, readOutput, rowRefused, rowPart}
 use Rattle.rules.proofs.Laws.CodeLaws.{Sound}
@@ -44,21 +44,24 @@ module _ (code : Code) (n : ℕ) (input output : List ℕ) where
   pub read-3 : outside code n ≡ false → length input ≡ frameBytes n → length output ≢ dataBytes code n → ReadExit 3 output
   read-3 h a b = read-no 3 (λ e. omega arith) (size-3 code n input (frameBytes n) output (dataBytes code n) readLater h a b)
 
+  pub read-10 : Sized code n input (frameBytes n) output (dataBytes code n) → isErased n (frameOf n input) ≡ true → ReadExit 10 output
+  read-10 f e = read-no 10 (λ e. omega arith) (size-later code n input (frameBytes n) output (dataBytes code n) readLater f ∙ rw e)
+
   -- a and b count the rows and the columns that are not codewords
   module _ (f : Sized code n input (frameBytes n) output (dataBytes code n)) (a b : ℕ) (ha : a ≡ badRows code n (turned n false (frameOf n input))) (hb : b ≡ badRows code n (turned n true (frameOf n input))) where
     counted : isFrame code n (frameOf n input) ≡ eqb (a + b) 0
     counted = frame-counted code n (frameOf n input) a b ha hb
 
-    pub read-6 : a + b ≢ 0 → ReadExit 6 output
-    read-6 k =
+    pub read-6 : isErased n (frameOf n input) ≡ false → a + b ≢ 0 → ReadExit 6 output
+    read-6 e k =
         read-no 6 (λ e. omega arith)
-        (size-later code n input (frameBytes n) output (dataBytes code n) readLater f ∙ rw (counted ∙ ne-eqb (a + b) 0 k))
+        (size-later code n input (frameBytes n) output (dataBytes code n) readLater f ∙ rw (e, counted ∙ ne-eqb (a + b) 0 k))
 
     pub read-0 :
-        a + b ≡ 0 → (out : List ℕ) → out ≡ bytesOf (dataBits code n) (cornered (dataBits code n) (dataBits code n) (frameOf n input)) → ReadExit 0 out
+        isErased n (frameOf n input) ≡ false → a + b ≡ 0 → (out : List ℕ) → out ≡ bytesOf (dataBits code n) (cornered (dataBits code n) (dataBits code n) (frameOf n input)) → ReadExit 0 out
     unfolding readOutput
-    read-0 k out e =
-        let z : readNumber code n input output ≡ 0 = read-accepts code n input output .1 (f, counted ∙ eq-eqb (a + b) 0 k) in (
+    read-0 s k out e =
+        let z : readNumber code n input output ≡ 0 = read-accepts code n input output .1 (f, s, counted ∙ eq-eqb (a + b) 0 k) in (
           sym z,
           e
               ∙ ap (bytesOf (dataBits code n)) (cornered-corner (dataBits code n) (frameOf n input))

@@ -10,6 +10,7 @@ pub mod Passes
 pub mod CountBounds
 pub mod EntryRules
 pub mod Entries
+pub mod Erased
 pub mod Determined
 pub mod Refusals
 pub mod Packing
@@ -17,9 +18,8 @@ pub mod Packing
 pub mod RepairFrames
 pub mod Repair
 pub mod Limit
+pub mod Premise
 -- All of it, of a code
 pub mod Promised
 -- The bench items
 pub mod Bench
-pub mod Erased
-pub mod Premise

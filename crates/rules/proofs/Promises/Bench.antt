@@ -5,7 +5,7 @@ use mathlib.Core.Logic.{_⊎_, inl, inr}
 use mathlib.Core.Bool.{Bool, true, false}
 use mathlib.Core.List.{List, [], _∷_, _++_, map}
 use mathlib.Core.Option.{Option, some, none}
-use Prim.Native.Nat.{ℕ}
+use Prim.Native.Nat.{ℕ, zero, suc}
 use native.Mathlib.Omega.{arith}
 use lib.Dec.{eqb}
 use lib.ListN.{replicate}
@@ -16,7 +16,7 @@ use Rattle.rules.specs.Words.{remainder, isCodeword, Codeword, answer, p
 use Rattle.rules.specs.Frames.{row}
 use Rattle.rules.specs.Bits.{rowBytes, wordOf, frameOf, wordBytes}
 use Rattle.rules.specs.Passes.{clean, repaired, stuck, spent, Outcome, decoded}
-use Rattle.rules.specs.Numbers.{frameBytes, encodeNumber, encodeOutput, Decoded, ended, decodeRefusal, decodeSaid, decodeOutput, WordSaid, answered, number, wordSaid, wordNumber, wordOutput, pick, told, handedOut, undecoded, wordRefused, wordRefusal}
+use Rattle.rules.specs.Numbers.{frameBytes, encodeNumber, encodeOutput, Decoded, refused, erased, ended, decodeRefusal, decodeSaid, decodeOutput, WordSaid, answered, number, wordSaid, wordNumber, wordOutput, pick, told, handedOut, undecoded, wordRefused, wordRefusal}
 use Rattle.rules.proofs.Laws.SmallCode.{sound-small}
 use Rattle.rules.proofs.Laws.Shape.{wordOf-length}
 use Rattle.rules.proofs.Laws.EncodeWordLaws.{codeword-unique}
@@ -63,6 +63,11 @@ c = 0xB7 ∷ 0xB1 ∷ 0xC0 ∷ []
 abbrev all : List ℕ
 all = 0xFF ∷ 0xFF ∷ 0xC0 ∷ []
 
+-- m rows of ones, spare bits zero
+unfoldable pub allRows : ℕ → List ℕ
+allRows zero = []
+allRows (suc m) = all ++ allRows m
+
 abbrev zeros : ℕ → List ℕ
 zeros m = replicate m 0
 
@@ -101,6 +106,11 @@ table =
     ∷ (word 254 (replicate 31 0xFF ++ 0xFC ∷ []), words 9 (answered none) (replicate 31 0xFF ++ 0xFC ∷ []))
     -- A, and a spare bit set
     ∷ (decode 18 2 (0x00 ∷ 0x00 ∷ 0x20 ∷ zeros 51), decodes 0 (ended clean 0 0 0 0) (zeros 54))
+    -- ones alone, spare bits zero and set; at allowance 0; and but for one code bit
+    ∷ (decode 18 2 (allRows 18), decodes 10 erased (nines 54))
+    ∷ (decode 18 2 (replicate 54 0xFF), decodes 10 erased (nines 54))
+    ∷ (decode 18 0 (replicate 54 0xFF), decodes 4 (refused 4) (nines 54))
+    ∷ (decode 18 2 (0x7F ∷ replicate 53 0xFF), decodes 7 (ended stuck 2 0 18 18) (0x7F ∷ replicate 53 0xFF))
     ∷ []
 
 -- every item of a table gets what stands beside it
@@ -173,7 +183,7 @@ quickly items h = all items ∙ h
     all (item ∷ items) = ap₂ _∷_ (quick-is (item .0)) (all items)
 
 pub bench : Bench
-unfolding computing nines got quick table
+unfolding computing nines got quick table allRows
 bench = quickly table refl
 
 -- ---- More items: the errors of reasoning that no item above shows, and passes after the second

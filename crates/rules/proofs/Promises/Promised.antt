@@ -14,6 +14,7 @@ use Rattle.rules.proofs.Promises.Entries.{Entries, entries}
 use Rattle.rules.proofs.Promises.Determined.{Determined, determined}
 use Rattle.rules.proofs.Promises.RepairFrames.{RepairsFrames, CountsDamage, repairs-frames, counts-damage}
 use Rattle.rules.proofs.Promises.Repair.{RepairPromise, repairs}
+use Rattle.rules.proofs.Promises.Erased.{OnesPromise, ones-promise}
 
 pub record Promised (code : Code) : Type 0 where
   pub codewords : Codewords code
@@ -27,6 +28,7 @@ pub record Promised (code : Code) : Type 0 where
   pub counts : CountsPromise code
   pub refuses : Refuses code
   pub entries : Entries code
+  pub ones : OnesPromise code
   pub determined : Determined code
   pub repairs-frames : RepairsFrames code
   pub counts-damage : CountsDamage code
@@ -45,6 +47,7 @@ promised code able = record {
   counts = counts code (able .sound);
   refuses = refuses code (able .sound);
   entries = entries code able;
+  ones = ones-promise code (able .sound);
   determined = determined code able;
   repairs-frames = repairs-frames code able;
   counts-damage = counts-damage code able;
