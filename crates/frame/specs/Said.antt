@@ -5,7 +5,7 @@ use Rattle.rules.specs.Passes as passes
 use Rattle.rules.specs.Numbers as rules
 use Rattle.rules.specs.Numbers.{Figures}
 use Rattle.frame.specs.declared.decode.Ending.{Ending}
-use Rattle.frame.specs.declared.decode.Ending.the-variants.{Clean, Repaired, Stuck, Spent}
+use Rattle.frame.specs.declared.decode.Ending.the-variants.{Clean, Repaired, Stuck, Spent, Erased}
 use Rattle.frame.specs.declared.decode.Report.{Report}
 use Rattle.frame.specs.declared.decode.Decoded.{Decoded}
 use Rattle.frame.specs.declared.decode.Decoded.the-variants.{Refused, Ended}
@@ -25,28 +25,31 @@ reportWith e p b r c = record { ending = endingOf e; passes = p; bits = b; rows 
 abbrev pub reportOf : passes.Outcome → Report
 reportOf o = reportWith (o .ending) (o .passes) (o .bits) (o .rows) (o .columns)
 
--- a refusal with its number, or what the passes gave
+-- no pass, and nothing counted
+abbrev pub uncounted : Ending → Report
+uncounted e = record { ending = e; passes = 0; bits = 0; rows = 0; columns = 0 }
+
+-- a refusal with its number, erased, or what the passes gave
 abbrev pub decodedOf : rules.Decoded → Decoded
 decodedOf (rules.refused k) = Refused k
+decodedOf rules.erased = Ended (uncounted Erased)
 decodedOf (rules.ended e p b r c) = Ended (reportWith e p b r c)
 
--- a frame that needed no pass
-abbrev pub cleanReport : Report
-cleanReport = record { ending = Clean; passes = 0; bits = 0; rows = 0; columns = 0 }
-
--- stuck and spent
+-- all but clean and repaired
 abbrev pub isFailure : Ending → Bool
 isFailure Clean = false
 isFailure Repaired = false
 isFailure Stuck = true
 isFailure Spent = true
+isFailure Erased = true
 
--- the number, and the values that stand beside it: rows and columns for stuck and spent alone
+-- the number, and the values that stand beside it: rows and columns for stuck and spent alone, and none for erased
 abbrev pub figuresFor : Ending → ℕ → ℕ → ℕ → ℕ → Figures
 figuresFor Clean p b r c = record { number = 0; passes = p; bits = b; rows = 0; columns = 0 }
 figuresFor Repaired p b r c = record { number = 0; passes = p; bits = b; rows = 0; columns = 0 }
 figuresFor Stuck p b r c = record { number = 7; passes = p; bits = b; rows = r; columns = c }
 figuresFor Spent p b r c = record { number = 8; passes = p; bits = b; rows = r; columns = c }
+figuresFor Erased p b r c = record { number = 10; passes = 0; bits = 0; rows = 0; columns = 0 }
 
 -- those of a report
 abbrev pub reportFigures : Report → Figures

@@ -3,6 +3,7 @@ use crate::words::bad;
 use crate::words::mend_word;
 use square::corner::copy_corner;
 use square::differences::differences;
+use square::erased::is_erased;
 use square::sizes::square_bytes;
 use word::numbers::BAD_ALLOWANCE;
 use word::numbers::BAD_INPUT_LENGTH;
@@ -16,7 +17,7 @@ ghost use Rattle.rules.specs.Passes.{isStuck};
 ghost use Rattle.rules.specs.Numbers.{mostAllowed, notAllowed};
 ghost use Rattle.laws.specs.Turns.{Copied};
 ghost use Rattle.frame.specs.Calls.{Repairs, Decodes};
-ghost use Rattle.frame.specs.Said.{cleanReport, isFailure};
+ghost use Rattle.frame.specs.Said.{uncounted, isFailure};
 
 const MOST_ALLOWED: usize = 32;
 
@@ -25,6 +26,7 @@ pub enum Ending {
     Repaired,
     Stuck,
     Spent,
+    Erased,
 }
 
 // Bits: in how many code bits the last frame differs from the received one, also where it is not handed out.
@@ -37,18 +39,18 @@ pub struct Report {
     pub columns: usize,
 }
 
-// A refusal by its number, or what the passes gave.
+// A refusal by its number, or how decoding ended.
 pub enum Decoded {
     Refused(u32),
     Ended(Report),
 }
 
-// No pass was needed, and nothing is counted.
-fn clean() -> Report
-    ensures { λ r. ⌜ r ≡ cleanReport ⌝ }
+// No pass was made, and nothing is counted.
+fn uncounted(ending: Ending) -> Report
+    ensures { λ r. ⌜ r ≡ uncounted ending ⌝ }
 {
     Report {
-        ending: Ending::Clean,
+        ending,
         passes: 0,
         bits: 0,
         rows: 0,
@@ -56,13 +58,14 @@ fn clean() -> Report
     }
 }
 
-// Stuck and spent hand nothing out.
+// All but clean and repaired hand no frame out.
 fn is_failure(ending: Ending) -> bool
     ensures { λ r. ⌜ r ≡ isFailure ending ⌝ }
 {
     match ending {
         Ending::Stuck => true,
         Ending::Spent => true,
+        Ending::Erased => true,
         Ending::Clean => false,
         Ending::Repaired => false,
     }
@@ -95,7 +98,7 @@ fn repair(n: usize, allowance: usize, received: &[u8], s: &mut [u8]) -> Report
     let mut rows = bad(n, s, false);
     let mut columns = bad(n, s, true);
     if rows + columns == 0 {
-        return clean();
+        return uncounted(Ending::Clean);
     }
     let mut passes = 0;
     let ending = loop {
@@ -127,7 +130,7 @@ fn repair(n: usize, allowance: usize, received: &[u8], s: &mut [u8]) -> Report
     }
 }
 
-// Numbers 1 to 4 leave `frame` untouched; stuck and spent leave the received bytes in it.
+// Numbers 1 to 4 and erased leave `frame` untouched; stuck and spent leave the received bytes in it.
 pub fn decode(n: usize, allowance: usize, received: &[u8], frame: &mut [u8]) -> Decoded
     ensures { λ r. ⌜ Decodes n allowance (now (received .entry)) (now (frame .entry)) r (now (frame .exit)) ⌝ }
 {
@@ -142,6 +145,9 @@ pub fn decode(n: usize, allowance: usize, received: &[u8], frame: &mut [u8]) -> 
     }
     if not_allowed(allowance) {
         return Decoded::Refused(BAD_ALLOWANCE);
+    }
+    if is_erased(n, received) {
+        return Decoded::Ended(uncounted(Ending::Erased));
     }
     copy_corner(n, n, received, n, frame);
     let report = repair(n, allowance, received, frame);

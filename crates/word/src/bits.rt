@@ -8,7 +8,7 @@ ghost use Rattle.rules.specs.Bits.{bitAt, wordOf, byteOf};
 ghost use Rattle.laws.specs.InPlace.{mostBytes, flipAt};
 
 // Bit x, 0 or 1.
-pub(crate) fn bit(s: &[u8], x: usize) -> u32
+pub fn bit(s: &[u8], x: usize) -> u32
     requires { ⌜ x < length (now s) * 8 ⌝ }
     ensures { λ r. ⌜ r ≡ num (bitAt (now (s .entry)) x) ⌝ }
 {

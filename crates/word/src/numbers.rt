@@ -1,4 +1,4 @@
-// The numbers of the rules that code gives. Refusals, 1 to 6, are looked for in this order.
+// The numbers of the rules that code gives. They are looked for in this order, but for 10: after 5 and before 6.
 pub const DONE: u32 = 0;
 
 pub const BAD_N: u32 = 1;
@@ -16,3 +16,5 @@ pub const NOT_CODEWORDS: u32 = 6;
 pub const STUCK: u32 = 7;
 
 pub const SPENT: u32 = 8;
+
+pub const ERASED: u32 = 10;
