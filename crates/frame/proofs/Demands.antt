@@ -14,22 +14,23 @@ use lib.Dec.{eqb}
 use lib.ListN.{length, getD}
 use Rattle.rules.specs.Codes.{smallCode, dataBits}
 use Rattle.rules.specs.Words.{isIn}
-use Rattle.rules.specs.Frames.{Frame, corner, rowsFirst}
+use Rattle.rules.specs.Frames.{Frame, corner}
 use Rattle.rules.specs.Bits.{rowBytes, stride, bitAt, frameOf, bytesOf}
 use Rattle.rules.specs.Passes as passes
 use Rattle.rules.specs.Passes.{Outcome, decoded}
 use Rattle.rules.specs.Damage.{spoilt, wrongBits}
 use Rattle.rules.specs.Numbers as rules
-use Rattle.rules.specs.Numbers.{mostAllowed, dataBytes, frameBytes, encodeOutput, readNumber, readOutput, number, figuresOf, figuresWith, decodeSaid, decodeOutput}
+use Rattle.rules.specs.Numbers.{mostAllowed, dataBytes, frameBytes, frameFor, encodeOutput, readNumber, readOutput, number, figuresOf, figuresWith, decodeSaid, decodeOutput}
 use Rattle.rules.proofs.Laws.NumberLaws.{told-success, told-both}
 use Rattle.rules.proofs.Promises.Passes.{after, PassRule}
 use Rattle.rules.proofs.Promises.Refusals.{NumberTable, GoodRow, rowOfBytes}
 use Rattle.rules.proofs.Promises.EntryRules.{Given, EncodeRule, ReadRule, decodeReasons, DecodeRule}
 use Rattle.rules.proofs.Promises.EntryRules as entry
-use Rattle.rules.proofs.Promises.Repair.{Written, Back, Agree}
+use Rattle.rules.proofs.Promises.Repair.{Written, Back, NotErased, Agree}
+use Rattle.rules.proofs.Promises.Erased.{small-ones}
 use Rattle.rules.proofs.Promises.Promised.{promised-small}
 use Rattle.frame.specs.declared.decode.Ending.{Ending}
-use Rattle.frame.specs.declared.decode.Ending.the-variants.{Clean, Repaired, Stuck, Spent}
+use Rattle.frame.specs.declared.decode.Ending.the-variants.{Clean, Repaired, Stuck, Spent, Erased}
 use Rattle.frame.specs.declared.decode.Report.{Report}
 use Rattle.frame.specs.declared.decode.Decoded.{Decoded}
 use Rattle.frame.specs.declared.decode.Decoded.the-variants.{Refused, Ended}
@@ -43,15 +44,15 @@ use Rattle.frame.proofs.SaidLaws.{figures-said}
 pub record Demand₁ : Type 0 where
   pub encode :
       (n : ℕ) (message output : List ℕ) (r : ℕ) (exit : List ℕ) → Encodes n message output r exit
-      → NumberTable (1 ∷ 2 ∷ 3 ∷ 5 ∷ []) [] r
-      (bytesOf n (rowsFirst smallCode n (frameOf (dataBits smallCode n) message))) message output exit
+      → NumberTable (1 ∷ 2 ∷ 3 ∷ 5 ∷ 10 ∷ []) [] r
+      (bytesOf n (frameFor smallCode n message)) message output exit
   pub read :
       (n : ℕ) (frame output : List ℕ) (r : ℕ) (exit : List ℕ) → Reads n frame output r exit
-      → NumberTable (1 ∷ 2 ∷ 3 ∷ 6 ∷ []) [] r
+      → NumberTable (1 ∷ 2 ∷ 3 ∷ 10 ∷ 6 ∷ []) [] r
       (bytesOf (dataBits smallCode n) (corner (dataBits smallCode n) (frameOf n frame))) frame output exit
   pub decode :
       (n allowance : ℕ) (received output : List ℕ) (r : Decoded) (exit : List ℕ) → Decodes n allowance received output r exit
-      → NumberTable (1 ∷ 2 ∷ 3 ∷ 4 ∷ []) (7 ∷ 8 ∷ []) (figures r .number)
+      → NumberTable (1 ∷ 2 ∷ 3 ∷ 4 ∷ 10 ∷ []) (7 ∷ 8 ∷ []) (figures r .number)
       (bytesOf n (decoded smallCode n allowance (frameOf n received) .last)) received output exit
   -- a row that is there takes 3 bytes or more, and any other is empty
   pub row :
@@ -73,20 +74,30 @@ outcomeAs n f e r =
       last = after smallCode n f (r .passes);
     }
 
--- what each ending says of the received frame f, by the pass rule, and what then stands in the output
-abbrev pub EndingSays : ℕ → ℕ → Frame → List ℕ → Ending → Report → List ℕ → Type 0
-EndingSays n a f received Clean r exit =
-    PassRule smallCode n a f (outcomeAs n f passes.clean r) × (exit ≡ bytesOf n (after smallCode n f (r .passes)))
-EndingSays n a f received Repaired r exit =
-    PassRule smallCode n a f (outcomeAs n f passes.repaired r) × (exit ≡ bytesOf n (after smallCode n f (r .passes)))
-EndingSays n a f received Stuck r exit = PassRule smallCode n a f (outcomeAs n f passes.stuck r) × (exit ≡ received)
-EndingSays n a f received Spent r exit = PassRule smallCode n a f (outcomeAs n f passes.spent r) × (exit ≡ received)
+-- the number of the first reason that is there
+abbrev pub FirstReason : ℕ → ℕ → List ℕ → List ℕ → ℕ → Type 0
+FirstReason n a received output k = Given (decodeReasons smallCode n a received output) k
 
--- a refusal has the number of the first reason that is there, and leaves the output; else the passes ended
+-- no reason is there, and the passes ended so
+abbrev pub PassesEnd : ℕ → ℕ → List ℕ → List ℕ → passes.Ending → Report → Type 0
+PassesEnd n a received output e r =
+    FirstReason n a received output 0 × PassRule smallCode n a (frameOf n received) (outcomeAs n (frameOf n received) e r)
+
+-- what each ending says of the received bytes, and what then stands in the output
+abbrev pub EndingSays : ℕ → ℕ → List ℕ → List ℕ → Ending → Report → List ℕ → Type 0
+EndingSays n a received output Clean r exit =
+    PassesEnd n a received output passes.clean r × (exit ≡ bytesOf n (after smallCode n (frameOf n received) (r .passes)))
+EndingSays n a received output Repaired r exit =
+    PassesEnd n a received output passes.repaired r × (exit ≡ bytesOf n (after smallCode n (frameOf n received) (r .passes)))
+EndingSays n a received output Stuck r exit = PassesEnd n a received output passes.stuck r × (exit ≡ received)
+EndingSays n a received output Spent r exit = PassesEnd n a received output passes.spent r × (exit ≡ received)
+EndingSays n a received output Erased r exit =
+    FirstReason n a received output 10 × ((r .passes ≡ 0) × (r .bits ≡ 0) × (r .rows ≡ 0) × (r .columns ≡ 0)) × (exit ≡ output)
+
+-- a refusal has the number of the first reason, which is not 10, and leaves the output
 abbrev pub DecodeSays : ℕ → ℕ → List ℕ → List ℕ → Decoded → List ℕ → Type 0
-DecodeSays n a received output (Refused k) exit = (k ≢ 0) × Given (decodeReasons smallCode n a received output) k × (exit ≡ output)
-DecodeSays n a received output (Ended r) exit =
-    Given (decodeReasons smallCode n a received output) 0 × EndingSays n a (frameOf n received) received (r .ending) r exit
+DecodeSays n a received output (Refused k) exit = (k ≢ 0) × (k ≢ 10) × FirstReason n a received output k × (exit ≡ output)
+DecodeSays n a received output (Ended r) exit = EndingSays n a received output (r .ending) r exit
 
 -- a report's fields by their names
 abbrev pub ended : Ending → ℕ → ℕ → ℕ → ℕ → Decoded
@@ -104,6 +115,7 @@ pub record Demand₂ : Type 0 where
       → DecodeSays n allowance received output r exit
   -- each answer's number and values
   pub refused-is : (k : ℕ) → figures (Refused k) ≡ figuresWith k 0 0 0 0
+  pub erased-is : (p b r c : ℕ) → figures (ended Erased p b r c) ≡ figuresWith 10 0 0 0 0
   pub clean-is : (p b r c : ℕ) → figures (ended Clean p b r c) ≡ figuresWith 0 p b 0 0
   pub repaired-is : (p b r c : ℕ) → figures (ended Repaired p b r c) ≡ figuresWith 0 p b 0 0
   pub stuck-is : (p b r c : ℕ) → figures (ended Stuck p b r c) ≡ figuresWith 7 p b r c
@@ -135,11 +147,23 @@ ComesBack n written received =
     × (exit ≡ written)
 
 pub record Demand₃ : Type 0 where
-  -- any written frame, spoiled so that at most two rows have three or more wrong bits
+  -- any written frame, spoiled so that at most two rows have three or more wrong bits, and not all ones
   pub repairs :
       (n : ℕ) (message blank written : List ℕ) → Encodes n message blank 0 written
-      → (received : List ℕ) → TwoSpoiled n written received → ComesBack n written received
-  -- so does any frame with at most eight wrong bits
+      → (received : List ℕ) → TwoSpoiled n written received → NotErased n received → ComesBack n written received
+  -- it is not, if a row has no wrong bit, or a column, or if n is 256
+  pub row-unharmed :
+      (n : ℕ) (message blank written : List ℕ) → Encodes n message blank 0 written
+      → (received : List ℕ) → TwoSpoiled n written received → (i : ℕ) → i < n
+      → ((j : ℕ) → j < n → bitAt written (i * stride n + j) ≡ bitAt received (i * stride n + j)) → NotErased n received
+  pub column-unharmed :
+      (n : ℕ) (message blank written : List ℕ) → Encodes n message blank 0 written
+      → (received : List ℕ) → TwoSpoiled n written received → (j : ℕ) → j < n
+      → ((i : ℕ) → i < n → bitAt written (i * stride n + j) ≡ bitAt received (i * stride n + j)) → NotErased n received
+  pub longest :
+      (message blank written : List ℕ) → Encodes 256 message blank 0 written
+      → (received : List ℕ) → TwoSpoiled 256 written received → NotErased 256 received
+  -- so any frame with at most eight wrong bits comes back, whatever was received
   pub eight-bits :
       (n : ℕ) (message blank written : List ℕ) → Encodes n message blank 0 written
       → (received : List ℕ) → length received ≡ frameBytes n → wrongBits n written received ≤ 8
@@ -201,10 +225,10 @@ demand₁ = record {
 
 -- an outcome that keeps the pass rule, in the code's own cases
 ending-says :
-    (n a : ℕ) (received exit : List ℕ) (o : Outcome) → PassRule smallCode n a (frameOf n received) o
+    (n a : ℕ) (received output exit : List ℕ) (o : Outcome) → FirstReason n a received output 0 → PassRule smallCode n a (frameOf n received) o
     → exit ≡ entry.written n received (o .ending) (o .last)
-    → EndingSays n a (frameOf n received) received (endingOf (o .ending)) (reportOf o) exit
-ending-says n a received exit o k x =
+    → EndingSays n a received output (endingOf (o .ending)) (reportOf o) exit
+ending-says n a received output exit o z k x =
     go (o .ending)
     (record { ends = k .ends; last-is = refl; bits-are = k .bits-are; rows-are = k .rows-are; columns-are = k .columns-are })
     (x ∙ ap (entry.written n received (o .ending)) (k .last-is))
@@ -212,28 +236,31 @@ ending-says n a received exit o k x =
     go :
         (e : passes.Ending) → PassRule smallCode n a (frameOf n received) (outcomeAs n (frameOf n received) e (reportOf o))
         → exit ≡ entry.written n received e (after smallCode n (frameOf n received) (o .passes))
-        → EndingSays n a (frameOf n received) received (endingOf e) (reportOf o) exit
-    go passes.clean p y = (p, y)
-    go passes.repaired p y = (p, y)
-    go passes.stuck p y = (p, y)
-    go passes.spent p y = (p, y)
+        → EndingSays n a received output (endingOf e) (reportOf o) exit
+    go passes.clean p y = ((z, p), y)
+    go passes.repaired p y = ((z, p), y)
+    go passes.stuck p y = ((z, p), y)
+    go passes.spent p y = ((z, p), y)
 
 decode-says :
     (n a : ℕ) (received output : List ℕ) (r : Decoded) (exit : List ℕ) → Decodes n a received output r exit
     → DecodeSays n a received output r exit
-decode-says n a received output r exit e = go (ℕ-discrete (rule .refusal) 0)
+decode-says n a received output r exit e = go (ℕ-discrete (rule .refusal) 0) (ℕ-discrete (rule .refusal) 10)
   where
     rule : DecodeRule smallCode n a received output (decodeSaid smallCode n a received output) exit
     rule = rw (e .1) (promised-small .entries .decodes n a received output)
 
-    go : Dec (rule .refusal ≡ 0) → DecodeSays n a received output r exit
-    go (yes z) =
+    go : Dec (rule .refusal ≡ 0) → Dec (rule .refusal ≡ 10) → DecodeSays n a received output r exit
+    go (yes z) t =
         let o = rule .ends z in
         subst⁻¹ (λ d. DecodeSays n a received output d exit) (e .0 ∙ ap decodedOf (o .2))
-        (rw z at (rule .number), ending-says n a received exit (o .0) (o .1) (o .3))
-    go (no z) =
-        let h = rule .refuses z in
-        subst⁻¹ (λ d. DecodeSays n a received output d exit) (e .0 ∙ ap decodedOf (h .0)) (z, rule .number, h .1)
+        (ending-says n a received output exit (o .0) (rw z at (rule .number)) (o .1) (o .3))
+    go (no z) (yes t) =
+        subst⁻¹ (λ d. DecodeSays n a received output d exit) (e .0 ∙ ap decodedOf (rule .erases t))
+        (rw t at (rule .number), (refl, refl, refl, refl), rule .untouched z)
+    go (no z) (no t) =
+        subst⁻¹ (λ d. DecodeSays n a received output d exit) (e .0 ∙ ap decodedOf (rule .refuses z t))
+        (z, t, rule .number, rule .untouched z)
 
 pub demand₂ : Demand₂
 demand₂ = record {
@@ -241,6 +268,7 @@ demand₂ = record {
   read = λ n frame output r exit e. rw (e .0, e .1) (promised-small .entries .reads n frame output);
   decode = decode-says;
   refused-is = λ k. refl;
+  erased-is = λ p b r c. refl;
   clean-is = λ p b r c. refl;
   repaired-is = λ p b r c. refl;
   stuck-is = λ p b r c. refl;
@@ -289,20 +317,20 @@ counts-here n message blank written e received s allowance output q exit c h =
 
 back-here :
     (n : ℕ) (message blank written : List ℕ) → Encodes n message blank 0 written
-    → (received : List ℕ) → TwoSpoiled n written received → ComesBack n written received
-back-here n message blank written e received s allowance output r exit lo hi h c = go (ℕ-discrete (rule .refusal) 0)
+    → (received : List ℕ) → TwoSpoiled n written received → NotErased n received → ComesBack n written received
+back-here n message blank written e received s seen allowance output r exit lo hi h c = go (ℕ-discrete (rule .refusal) 0) (ℕ-discrete (rule .refusal) 10)
   where
     back : Back smallCode n allowance written received output
-    back = promised-small .repairs .back n allowance written received output (writes n message blank written e) s lo hi h
+    back = promised-small .repairs .back n allowance written received output (writes n message blank written e) s seen lo hi h
 
     rule : DecodeRule smallCode n allowance received output (decodeSaid smallCode n allowance received output) (decodeOutput smallCode n allowance received output)
     rule = promised-small .entries .decodes n allowance received output
 
     go :
-        Dec (rule .refusal ≡ 0)
+        Dec (rule .refusal ≡ 0) → Dec (rule .refusal ≡ 10)
         → (q : Report) × (r ≡ Ended q) × ((q .ending ≡ Clean) ⊎ (q .ending ≡ Repaired)) × (q .passes ≤ 2) × (q .bits ≡ wrongBits n written received)
         × (exit ≡ written)
-    go (yes z) =
+    go (yes z) t =
         let o = rule .ends z in
         let q : Report = reportOf (o .0) in
         let is : r ≡ Ended q = c .0 ∙ ap decodedOf (o .2) in
@@ -311,7 +339,8 @@ back-here n message blank written e received s allowance output r exit lo hi h c
         let few : figuresOf (rules.told (o .0)) .passes ≤ 2 = rw (o .2) at (back .few) in
         let k = counts-here n message blank written e received s allowance output q exit (sym is ∙ c .0, c .1) ending in
         (q, is, ending, omega (arith, few, told-both (o .0) .0), k .1, k .0)
-    go (no z) = absurd (z (sym (ap number (rule .refuses z .0)) ∙ back .zero))
+    go (no z) (yes t) = let k = sym (ap number (rule .erases t)) ∙ back .zero in absurd (omega arith)
+    go (no z) (no t) = absurd (z (sym (ap number (rule .refuses z t)) ∙ back .zero))
 
 -- neither of two places
 not-named : (i p q : ℕ) → isIn i (p ∷ q ∷ []) ≡ false → (i ≢ p) × (i ≢ q)
@@ -325,20 +354,72 @@ not-named i p q h =
     split false true h = absurd (true≢false h)
     split false false h = (refl, refl)
 
+-- 1 or 2 is not x
+other : (x : ℕ) → (i : ℕ) × (1 ≤ i) × (i < 3) × (i ≢ x)
+other x = go (ℕ-discrete 1 x)
+  where
+    go : Dec (1 ≡ x) → (i : ℕ) × (1 ≤ i) × (i < 3) × (i ≢ x)
+    go (yes a) = (2, omega arith, omega arith, λ e. omega arith)
+    go (no a) = (1, omega arith, omega arith, a)
+
+-- one of three rows, or of three columns, is neither of two
+third : (p q : ℕ) → (i : ℕ) × (i < 3) × (i ≢ p) × (i ≢ q)
+third p q = go (ℕ-discrete 0 p) (ℕ-discrete 0 q)
+  where
+    go : Dec (0 ≡ p) → Dec (0 ≡ q) → (i : ℕ) × (i < 3) × (i ≢ p) × (i ≢ q)
+    go (no a) (no b) = (0, omega arith, a, b)
+    go (no a) (yes b) = let k = other p in (k .0, k .2, k .3, λ e. omega (arith, k .1))
+    go (yes a) b = let k = other q in (k .0, k .2, λ e. omega (arith, k .1), k .3)
+
+module _ (n : ℕ) (message blank written : List ℕ) (e : Encodes n message blank 0 written) (received : List ℕ) where
+  long : 18 ≤ n
+  long = promised-small .round-trips .accepts n message blank .0 (sym (e .0)) .0 .from
+
+  eight-back : length received ≡ frameBytes n → wrongBits n written received ≤ 8 → ComesBack n written received
+  eight-back h few =
+      let s = promised-small .repairs .few-bits n written received h (omega (arith, few)) in
+      let z = promised-small .repairs .some-row n written received (omega (arith, few, long)) in
+      back-here n message blank written e received s
+      (promised-small .repairs .row-unharmed n written received (writes n message blank written e) s (z .0) (z .1) (z .2))
+
+  rows-back :
+      (p q : ℕ) → length received ≡ frameBytes n
+      → ((i j : ℕ) → i < n → j < n → i ≢ p → i ≢ q → bitAt written (i * stride n + j) ≡ bitAt received (i * stride n + j))
+      → ComesBack n written received
+  rows-back p q h kept =
+      let s =
+      promised-small .repairs .rows-lost n written received (p ∷ q ∷ []) (omega arith) h
+      (λ i j hi hj out. let k = not-named i p q out in kept i j hi hj (k .0) (k .1)) in
+      let t = third p q in
+      let l : t .0 < n = omega (arith, t .1, long) in
+      back-here n message blank written e received s
+      (promised-small .repairs .row-unharmed n written received (writes n message blank written e) s (t .0) l (λ j m. kept (t .0) j l m (t .2) (t .3)))
+
+  columns-back :
+      (p q : ℕ) → length received ≡ frameBytes n
+      → ((i j : ℕ) → i < n → j < n → j ≢ p → j ≢ q → bitAt written (i * stride n + j) ≡ bitAt received (i * stride n + j))
+      → ComesBack n written received
+  columns-back p q h kept =
+      let s =
+      promised-small .repairs .columns-lost n written received (p ∷ q ∷ []) (omega arith) h
+      (λ i j hi hj out. let k = not-named j p q out in kept i j hi hj (k .0) (k .1)) in
+      let t = third p q in
+      let l : t .0 < n = omega (arith, t .1, long) in
+      back-here n message blank written e received s
+      (promised-small .repairs .column-unharmed n written received (writes n message blank written e) s (t .0) l (λ i m. kept i (t .0) m l (t .2) (t .3)))
+
 pub demand₃ : Demand₃
 demand₃ = record {
   repairs = back-here;
+  row-unharmed = λ n message blank written e received. promised-small .repairs .row-unharmed n written received (writes n message blank written e);
+  column-unharmed = λ n message blank written e received. promised-small .repairs .column-unharmed n written received (writes n message blank written e);
+  longest = λ message blank written e received s.
+      promised-small .repairs .ones-codeword 256 written received (writes 256 message blank written e) s
+      (small-ones .at-256 256 (omega arith) (omega arith) .1 refl);
   counts = counts-here;
-  eight-bits = λ n message blank written e received h few.
-      back-here n message blank written e received (promised-small .repairs .few-bits n written received h (omega (arith, few)));
-  rows-lost = λ n message blank written e received p q h kept.
-      back-here n message blank written e received
-      (promised-small .repairs .rows-lost n written received (p ∷ q ∷ []) (omega arith) h
-      (λ i j hi hj out. let k = not-named i p q out in kept i j hi hj (k .0) (k .1)));
-  columns-lost = λ n message blank written e received p q h kept.
-      back-here n message blank written e received
-      (promised-small .repairs .columns-lost n written received (p ∷ q ∷ []) (omega arith) h
-      (λ i j hi hj out. let k = not-named j p q out in kept i j hi hj (k .0) (k .1)));
+  eight-bits = eight-back;
+  rows-lost = rows-back;
+  columns-lost = columns-back;
   apart = λ n message blank written message′ blank′ written′ e e′ d received received′ s s′.
       promised-small .repairs .apart n written written′ received received′ (writes n message blank written e)
       (writes n message′ blank′ written′ e′) d s s′;

@@ -15,9 +15,10 @@ use Rattle.laws.proofs.DecodeLaws as refusals
 use Rattle.laws.proofs.DecodeLaws.{Accepted, accepted}
 use Rattle.laws.proofs.PassStepLaws as steps
 use Rattle.frame.specs.declared.decode.Ending.{Ending}
+use Rattle.frame.specs.declared.decode.Ending.the-variants.{Erased}
 use Rattle.frame.specs.declared.decode.Report.{Report}
 use Rattle.frame.specs.declared.decode.Decoded.the-variants.{Ended}
-use Rattle.frame.specs.Said.{endingOf, reportWith, reportOf, decodedOf, isFailure}
+use Rattle.frame.specs.Said.{endingOf, reportWith, reportOf, uncounted, decodedOf, isFailure}
 
 -- a report, but for its ending
 abbrev endedAs : Report → Ending → Report
@@ -38,6 +39,13 @@ pub refusal-said :
     (n a : ℕ) (input output : List ℕ) (k : ℕ) → refusals.Refused smallCode n a input output k
     → (decodedOf (rules.refused k) ≡ decodedOf (decodeSaid smallCode n a input output)) × (output ≡ decodeOutput smallCode n a input output)
 refusal-said n a input output k h = (ap decodedOf (sym (h .0)), sym (h .1))
+
+-- erased has every value zero, and leaves the output too
+pub erased-said :
+    (n a : ℕ) (input output : List ℕ) (r : Report)
+    → (decodeSaid smallCode n a input output ≡ rules.erased) × (decodeOutput smallCode n a input output ≡ output) → r ≡ uncounted Erased
+    → (Ended r ≡ decodedOf (decodeSaid smallCode n a input output)) × (output ≡ decodeOutput smallCode n a input output)
+erased-said n a input output r h e = (ap Ended e ∙ ap decodedOf (sym (h .0)), sym (h .1))
 
 -- stuck and spent hand back what was received, clean and repaired the last frame
 handed-is :

@@ -26,7 +26,8 @@ use Rattle.laws.proofs.PassStepLaws.{
   ended-stuck,
   ended-spent,
 }
-use Rattle.frame.specs.Said.{cleanReport}
+use Rattle.frame.specs.declared.decode.Ending.the-variants.{Clean}
+use Rattle.frame.specs.Said.{uncounted}
 use Rattle.frame.proofs.ReportLaws.{reported}
 use Rattle.frame.proofs.decode.repair.Statement.{statement}
 use Rattle.frame.proofs.decode.repair.Tie as tie
@@ -88,8 +89,8 @@ bad-requires-2 c κs = search needs
 add-if1 : tie.Need-add-if1 Inv-loop2 μ-loop2 Inv-loop μ-loop
 add-if1 c = search needs
 
-clean-requires : tie.Need-clean-requires Inv-loop2 μ-loop2 Inv-loop μ-loop
-clean-requires c κs = search needs
+uncounted-requires : tie.Need-uncounted-requires Inv-loop2 μ-loop2 Inv-loop μ-loop
+uncounted-requires c κs = search needs
 
 same-length : tie.Need-same-length Inv-loop2 μ-loop2 Inv-loop μ-loop
 same-length c = search needs
@@ -100,9 +101,9 @@ returns c =
     let q = b .before .before .before .before .before .before in
     let k = q .pre .0 in
     let d =
-    reported {x = cleanReport} refl
+    reported {x = uncounted Clean} refl
     (ended-clean smallCode _ _ _ (q .args .s .now) _ _ (k .0) (k .2) (b .before .before .bad .ensures .0) (b .bad2 .ensures .0) (c .before .if1 .taken)) refl in
-    (c .clean .ensures ∙ d .0, d .1)
+    (c .uncounted .ensures ∙ d .0, d .1)
 
 loop-holds : tie.Need-loop-holds Inv-loop2 μ-loop2 Inv-loop μ-loop
 loop-holds c =
@@ -184,7 +185,7 @@ repair-spec =
     bad-requires
     bad-requires-2
     add-if1
-    clean-requires
+    uncounted-requires
     same-length
     returns
     loop-holds

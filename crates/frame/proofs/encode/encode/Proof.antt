@@ -14,7 +14,7 @@ use Rattle.rules.proofs.Laws.SmallCode.{sound-small}
 use Rattle.rules.proofs.Laws.NumberLaws.{Sized}
 use Rattle.rules.proofs.Laws.Shape.{frameOf-square}
 use Rattle.laws.proofs.RefusalLaws as laws
-use Rattle.laws.proofs.EncodeLaws.{corner-ready, rows-ready, encoded, answer-1, answer-2, answer-3, answer-5, answer-0}
+use Rattle.laws.proofs.EncodeLaws.{corner-ready, rows-ready, encoded, answer-1, answer-2, answer-3, answer-5, answer-10, answer-0}
 use Rattle.frame.proofs.encode.encode.Statement.{statement}
 use Rattle.frame.proofs.encode.encode.Tie as tie
 
@@ -72,34 +72,46 @@ returns-4 : tie.Need-returns-4
 returns-4 c =
     answer-5 smallCode _ _ _ (sized (c .before .before)) (sym (c .before .is-packed .ensures) ∙ not-true _ (c .if4 .taken))
 
+makes-erased-requires : tie.Need-makes-erased-requires
+makes-erased-requires c κs =
+    let d = c .before .before in (inside (d .before .before .before .before), taken (d .before .before))
+
+returns-5 : tie.Need-returns-5
+returns-5 c =
+    let d = c .before .before in
+    answer-10 smallCode _ _ _ (sized (d .before .before)) (sym (d .before .is-packed .ensures) ∙ not-false _ (d .if4 .left))
+    (sym (c .before .makes-erased .ensures) ∙ c .if5 .taken)
+
 copy-corner-requires : tie.Need-copy-corner-requires
 copy-corner-requires c κs =
-    let f = sized (c .before .before .before) in
+    let f = sized (c .before .before .before .before .before) in
     (omega (arith, f .from, f .upTo), (f .taken, f .lent))
 
 encode-words-requires : tie.Need-encode-words-requires
 encode-words-requires c κs =
     let b = c .before .before .before in
-    let f = sized (b .before .before .before .before) in
+    let f = sized (b .before .before .before .before .before .before) in
     (corner-ready smallCode sound-small _ _ _ (f .from) (f .upTo) (frameOf-square _ _) (b .copy-corner .ensures), omega (arith, f .from))
 
 encode-words-requires-2 : tie.Need-encode-words-requires-2
 encode-words-requires-2 c κs =
     let w = c .before .before .before in
     let b = w .before .before .before .before in
-    let f = sized (b .before .before .before .before) in
+    let f = sized (b .before .before .before .before .before .before) in
     (rows-ready smallCode sound-small _ _ _ (f .from) (f .upTo) (frameOf-square _ _) (b .copy-corner .ensures) _ (w .encode-words .ensures), omega (arith, f .from))
 
 same-length : tie.Need-same-length
 same-length c = search needs
 
-returns-5 : tie.Need-returns-5
-returns-5 c =
+returns-6 : tie.Need-returns-6
+returns-6 c =
     let v = c .before .before in
     let w = v .before .before .before .before in
     let b = w .before .before .before .before in
-    let f = sized (b .before .before .before .before) in
-    answer-0 smallCode _ _ _ f (sym (b .before .before .before .is-packed .ensures) ∙ not-false _ (b .before .before .if4 .left))
+    let f = sized (b .before .before .before .before .before .before) in
+    let d = b .before .before .before .before in
+    answer-0 smallCode _ _ _ f (sym (d .before .is-packed .ensures) ∙ not-false _ (d .if4 .left))
+    (sym (b .before .before .before .makes-erased .ensures) ∙ b .before .before .if5 .left)
     (encoded smallCode sound-small _ _ _ (f .from) (f .upTo) (frameOf-square _ _) (b .copy-corner .ensures) _ (w .encode-words .ensures) _
     (v .encode-words2 .ensures))
 
@@ -116,8 +128,10 @@ encode-spec =
     returns-3
     is-packed-requires
     returns-4
+    makes-erased-requires
+    returns-5
     copy-corner-requires
     encode-words-requires
     encode-words-requires-2
     same-length
-    returns-5)
+    returns-6)

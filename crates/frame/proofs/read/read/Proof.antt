@@ -5,10 +5,12 @@ use mathlib.Core.Bool.{false}
 use native.Mathlib.Omega.{arith}
 use borrow.Author.Needs.{needs}
 use Rattle.rules.specs.Codes.{smallCode}
+use Rattle.rules.specs.Frames.{isErased}
+use Rattle.rules.specs.Bits.{frameOf}
 use Rattle.rules.specs.Numbers.{outside, frameBytes, dataBytes}
 use Rattle.rules.proofs.Laws.NumberLaws.{Sized}
 use Rattle.laws.proofs.RefusalLaws.{inside, sized}
-use Rattle.laws.proofs.ReadLaws.{read-0, read-1, read-2, read-3, read-6}
+use Rattle.laws.proofs.ReadLaws.{read-0, read-1, read-2, read-3, read-10, read-6}
 use Rattle.frame.proofs.read.read.Statement.{statement}
 use Rattle.frame.proofs.read.read.Tie as tie
 
@@ -57,33 +59,44 @@ returns-3 c =
     (c .before .before .if2 .left ∙ c .before .before .before .square-bytes .ensures)
     (λ e. c .if3 .taken (e ∙ sym (c .before .square-bytes2 .ensures)))
 
-bad-requires : tie.Need-bad-requires
-bad-requires c κs = let f = fits c in (f .from, f .upTo, f .taken)
-
-bad-requires-2 : tie.Need-bad-requires-2
-bad-requires-2 c κs = let f = fits (c .before) in (f .from, f .upTo, f .taken)
-
-add-if4 : tie.Need-add-if4
-add-if4 c = search needs
+is-erased-requires : tie.Need-is-erased-requires
+is-erased-requires c κs = let f = fits c in omega (arith, f .from, f .upTo, f .taken)
 
 returns-4 : tie.Need-returns-4
-returns-4 c =
-    let a = c .before .before .before .before .before .before .before .before .before .before .before .args in
-    read-6 smallCode (a .n) (a .frame .now) (a .message .now) (fits (c .before .before .before)) _ _ (c .before .before .bad .ensures .0)
-    (c .before .bad2 .ensures .0) (c .if4 .taken)
+returns-4 c = read-10 smallCode _ _ _ (fits (c .before .before)) (sym (c .before .is-erased .ensures) ∙ c .if4 .taken)
+
+-- past the fourth
+seen :
+    (c : tie.Else4) →
+    let a = c .before .before .before .before .before .before .before .before .before .before .args in
+    isErased (a .n) (frameOf (a .n) (a .frame .now)) ≡ false
+seen c = sym (c .before .is-erased .ensures) ∙ c .if4 .left
+
+bad-requires : tie.Need-bad-requires
+bad-requires c κs = let f = fits (c .before .before) in (f .from, f .upTo, f .taken)
+
+bad-requires-2 : tie.Need-bad-requires-2
+bad-requires-2 c κs = let f = fits (c .before .before .before) in (f .from, f .upTo, f .taken)
+
+add-if5 : tie.Need-add-if5
+add-if5 c = search needs
+
+returns-5 : tie.Need-returns-5
+returns-5 c =
+    let s = c .before .before .before in
+    read-6 smallCode _ _ _ (fits (s .before .before)) _ _ (c .before .before .bad .ensures .0) (c .before .bad2 .ensures .0) (seen s) (c .if5 .taken)
 
 copy-corner-requires : tie.Need-copy-corner-requires
-copy-corner-requires c κs = let f = fits (c .before .before .before .before) in (omega arith, (f .taken, f .lent))
+copy-corner-requires c κs = let f = fits (c .before .before .before .before .before .before) in (omega arith, (f .taken, f .lent))
 
 same-length : tie.Need-same-length
 same-length c = search needs
 
-returns-5 : tie.Need-returns-5
-returns-5 c =
-    let f = c .before .before .before .before .before .before .before in
-    let a = f .before .before .before .before .before .before .before .before .args in
-    read-0 smallCode (a .n) (a .frame .now) (a .message .now) (fits f) _ _ (c .before .before .before .before .before .before .bad .ensures .0)
-    (c .before .before .before .before .before .bad2 .ensures .0) (c .before .before .before .before .if4 .left) _
+returns-6 : tie.Need-returns-6
+returns-6 c =
+    let s = c .before .before .before .before .before .before .before in
+    read-0 smallCode _ _ _ (fits (s .before .before)) _ _ (c .before .before .before .before .before .before .bad .ensures .0)
+    (c .before .before .before .before .before .bad2 .ensures .0) (seen s) (c .before .before .before .before .if5 .left) _
     (c .before .before .copy-corner .ensures)
 
 pub read-spec : {M : Type 1} → statement M
@@ -97,10 +110,12 @@ read-spec =
     returns-2
     square-bytes-requires-2
     returns-3
+    is-erased-requires
+    returns-4
     bad-requires
     bad-requires-2
-    add-if4
-    returns-4
+    add-if5
+    returns-5
     copy-corner-requires
     same-length
-    returns-5)
+    returns-6)
