@@ -22,6 +22,7 @@ fn show_report(report: Report) {
         Ending::Repaired => text(b" repaired"),
         Ending::Stuck => text(b" stuck"),
         Ending::Spent => text(b" spent"),
+        Ending::Erased => text(b" erased"),
     }
     number(report.passes);
     number(report.bits);

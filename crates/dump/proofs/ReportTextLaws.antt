@@ -7,11 +7,12 @@ use Prim.Native.Nat.{ℕ}
 use lib.Dec.{eqb}
 use lib.ListN.{length}
 use Rattle.rules.specs.Codes.{smallCode}
+use Rattle.rules.specs.Frames.{isErased}
 use Rattle.rules.specs.Bits.{frameOf}
 use Rattle.rules.specs.Passes as passes
 use Rattle.rules.specs.Passes.{decoded}
 use Rattle.rules.specs.Numbers as rules
-use Rattle.rules.specs.Numbers.{refused, ended, pick, first, outside, notLong, notAllowed, frameBytes, told, decodeRefusal, decodeSaid}
+use Rattle.rules.specs.Numbers.{refused, erased, undecoded, ended, pick, first, outside, notLong, notAllowed, frameBytes, told, decodeRefusal, decodeSaid}
 use Rattle.textrules.specs.Text.{Text}
 use Rattle.textrules.specs.Dump.{recordText}
 use Rattle.frame.specs.declared.decode.Ending.{Ending}
@@ -40,6 +41,7 @@ told-as number d e q t h s at x exit = subst (λ (u : Text). Lays s at u x exit)
 -- a record's line, as the rules have it
 pub decoded-said : (number : ℕ) (d : rules.Decoded) → decodedText number (decodedOf d) ≡ recordText number d
 decoded-said number (refused k) = refl
+decoded-said number erased = refl
 decoded-said number (ended passes.clean p b r c) = refl
 decoded-said number (ended passes.repaired p b r c) = refl
 decoded-said number (ended passes.stuck p b r c) = refl
@@ -59,8 +61,9 @@ said-of-length n allowance input output output₂ h =
     ∷ (notLong input (frameBytes n), 2)
     ∷ (not (eqb l (frameBytes n)), 3)
     ∷ (notAllowed allowance, 4)
+    ∷ (isErased n (frameOf n input), 10)
     ∷ []) in
-    pick (eqb r 0) (told (decoded smallCode n allowance (frameOf n input))) (refused r))
+    pick (eqb r 0) (told (decoded smallCode n allowance (frameOf n input))) (undecoded r))
     h
 
 pub said-of :

@@ -4,7 +4,7 @@ use Prim.Native.Nat.{ℕ, _+_, _*_}
 use Rattle.textrules.specs.Text.{Text, ascii, decimal}
 use Rattle.textrules.specs.Dump.{reportLine}
 use Rattle.frame.specs.declared.decode.Ending.{Ending}
-use Rattle.frame.specs.declared.decode.Ending.the-variants.{Clean, Repaired, Stuck, Spent}
+use Rattle.frame.specs.declared.decode.Ending.the-variants.{Clean, Repaired, Stuck, Spent, Erased}
 use Rattle.frame.specs.declared.decode.Report.{Report}
 use Rattle.frame.specs.declared.decode.Decoded.{Decoded}
 use Rattle.frame.specs.declared.decode.Decoded.the-variants.{Refused, Ended}
@@ -47,12 +47,17 @@ badCounts r = record { passes = r .passes; bits = r .bits; rows = r .rows; colum
 abbrev pub refusedCounts : ℕ → Counts
 refusedCounts k = record { passes = k; bits = 0; rows = 0; columns = 0 }
 
+-- erased has none
+abbrev pub noCounts : Counts
+noCounts = record { passes = 0; bits = 0; rows = 0; columns = 0 }
+
 -- the line of a report, by its ending
 abbrev pub textFor : ℕ → Ending → Report → Text
 textFor number Clean r = wordAndCounts number (ascii "clean") (mendedCounts r)
 textFor number Repaired r = wordAndCounts number (ascii "repaired") (mendedCounts r)
 textFor number Stuck r = wordAndCounts number (ascii "stuck") (badCounts r)
 textFor number Spent r = wordAndCounts number (ascii "spent") (badCounts r)
+textFor number Erased r = wordAndCounts number (ascii "erased") noCounts
 
 -- the line of a report
 abbrev pub reportText : ℕ → Report → Text

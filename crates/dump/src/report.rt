@@ -11,7 +11,7 @@ ghost use Prim.Native.Nat.{_+_, _≤_};
 ghost use lib.ListN.{length};
 ghost use Rattle.textrules.specs.Dump.{questioned};
 ghost use Rattle.text.specs.Laid.{Lays};
-ghost use Rattle.dump.specs.ReportText.{lineRoom, countsRoom, mostLetters, countsText, wordAndCounts, mendedCounts, badCounts, refusedCounts, reportText, decodedText};
+ghost use Rattle.dump.specs.ReportText.{lineRoom, countsRoom, mostLetters, countsText, wordAndCounts, mendedCounts, badCounts, refusedCounts, noCounts, reportText, decodedText};
 
 pub(crate) fn put_questioned(out: &mut [u8], at: usize, number: usize) -> usize
     requires { ⌜ at + lineRoom ≤ length (now out) ⌝ }
@@ -86,6 +86,17 @@ fn refused_counts(number: u32) -> Counts
     }
 }
 
+fn no_counts() -> Counts
+    ensures { λ r. ⌜ r ≡ noCounts ⌝ }
+{
+    Counts {
+        passes: 0,
+        bits: 0,
+        rows: 0,
+        columns: 0,
+    }
+}
+
 fn put_report(out: &mut [u8], at: usize, number: usize, report: Report) -> usize
     requires { ⌜ at + lineRoom ≤ length (now out) ⌝ }
     ensures { λ r. ⌜ Lays (now (out .entry)) at (reportText number report) r (now (out .exit)) ⌝ }
@@ -96,6 +107,7 @@ fn put_report(out: &mut [u8], at: usize, number: usize, report: Report) -> usize
         Ending::Repaired => put_line(out, at, number, b"repaired", mended_counts(report)),
         Ending::Stuck => put_line(out, at, number, b"stuck", bad_counts(report)),
         Ending::Spent => put_line(out, at, number, b"spent", bad_counts(report)),
+        Ending::Erased => put_line(out, at, number, b"erased", no_counts()),
     }
 }
 

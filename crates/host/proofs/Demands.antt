@@ -6,15 +6,16 @@ use mathlib.Core.List.{List, [], _∷_}
 use Prim.Native.Nat.{ℕ, _≤_, _<_}
 use lib.ListN.{length, getD}
 use Rattle.rules.specs.Codes.{smallCode, dataBits}
-use Rattle.rules.specs.Frames.{corner, rowsFirst}
+use Rattle.rules.specs.Frames.{corner}
 use Rattle.rules.specs.Bits.{frameOf, bytesOf}
 use Rattle.rules.specs.Passes.{decoded}
-use Rattle.rules.specs.Numbers.{mostAllowed, dataBytes, frameBytes, Decoded, figuresOf, decodeSaid}
+use Rattle.rules.specs.Numbers.{mostAllowed, dataBytes, frameBytes, frameFor, Decoded, figuresOf, decodeSaid}
 use Rattle.rules.specs.Packed.{unpackedFigures}
 use Rattle.rules.specs.Damage.{wrongBits}
 use Rattle.rules.proofs.Promises.Packing.{packs}
 use Rattle.rules.proofs.Promises.Refusals.{NumberTable}
 use Rattle.rules.proofs.Promises.EntryRules.{EncodeRule, ReadRule, DecodeRule}
+use Rattle.rules.proofs.Promises.Repair.{NotErased}
 use Rattle.rules.proofs.Promises.Promised.{promised-small}
 use Rattle.frame.specs.declared.decode.Decoded as code
 use Rattle.frame.specs.Calls.{Encodes, Reads, Decodes}
@@ -27,15 +28,15 @@ pub record HostDemands : Type 0 where
   -- demand 1: which numbers can occur, and what stands in the output for each
   pub encode-answers :
       (n : ℕ) (message output : List ℕ) (r : ℕ) (exit : List ℕ) → Encodes n message output r exit
-      → NumberTable (1 ∷ 2 ∷ 3 ∷ 5 ∷ []) [] r
-      (bytesOf n (rowsFirst smallCode n (frameOf (dataBits smallCode n) message))) message output exit
+      → NumberTable (1 ∷ 2 ∷ 3 ∷ 5 ∷ 10 ∷ []) [] r
+      (bytesOf n (frameFor smallCode n message)) message output exit
   pub read-answers :
       (n : ℕ) (frame output : List ℕ) (r : ℕ) (exit : List ℕ) → Reads n frame output r exit
-      → NumberTable (1 ∷ 2 ∷ 3 ∷ 6 ∷ []) [] r
+      → NumberTable (1 ∷ 2 ∷ 3 ∷ 10 ∷ 6 ∷ []) [] r
       (bytesOf (dataBits smallCode n) (corner (dataBits smallCode n) (frameOf n frame))) frame output exit
   pub decode-answers :
       (n allowance : ℕ) (received output : List ℕ) (r : ℕ) (exit : List ℕ) → DecodesPacked n allowance received output r exit
-      → NumberTable (1 ∷ 2 ∷ 3 ∷ 4 ∷ []) (7 ∷ 8 ∷ []) (unpackedFigures r .number)
+      → NumberTable (1 ∷ 2 ∷ 3 ∷ 4 ∷ 10 ∷ []) (7 ∷ 8 ∷ []) (unpackedFigures r .number)
       (bytesOf n (decoded smallCode n allowance (frameOf n received) .last)) received output exit
   -- demand 2: each keeps its entry point's rule, which names each number beside its reason
   pub encode :
@@ -58,7 +59,7 @@ pub record HostDemands : Type 0 where
   -- demand 3
   pub comes-back :
       (n : ℕ) (message blank written : List ℕ) → Encodes n message blank 0 written
-      → (received : List ℕ) → TwoSpoiled n written received
+      → (received : List ℕ) → TwoSpoiled n written received → NotErased n received
       → (allowance : ℕ) (output : List ℕ) (r : ℕ) (exit : List ℕ) → 2 ≤ allowance → allowance ≤ mostAllowed
       → length output ≡ frameBytes n → DecodesPacked n allowance received output r exit
       → (unpackedFigures r .number ≡ 0) × (unpackedFigures r .passes ≤ 2) × (exit ≡ written)
@@ -101,8 +102,8 @@ host-demands = record {
     (refl, e .1),
     read-out n allowance received output r exit e ∙ sym (figures-said (decodeSaid smallCode n allowance received output)),
   );
-  comes-back = λ n message blank written w received s allowance output r exit lo hi h e.
-      let k = promised-small .repairs .back n allowance written received output (writes n message blank written w) s lo hi h in
+  comes-back = λ n message blank written w received s seen allowance output r exit lo hi h e.
+      let k = promised-small .repairs .back n allowance written received output (writes n message blank written w) s seen lo hi h in
       let is = read-out n allowance received output r exit e in
       (ap (λ f. f .number) is ∙ k .zero, rw is (k .few), e .1 ∙ k .bytes);
   counts = λ n message blank written w received s allowance output r exit e z.

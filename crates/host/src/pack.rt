@@ -3,6 +3,7 @@ use frame::decode::Decoded;
 use frame::decode::Ending;
 use frame::decode::Report;
 use word::numbers::DONE;
+use word::numbers::ERASED;
 use word::numbers::SPENT;
 use word::numbers::STUCK;
 ghost use mathlib.Core.Path.{_≡_};
@@ -30,7 +31,7 @@ fn pack(number: u32, passes: usize, bits: usize, rows: usize, columns: usize) ->
         | ((columns as u64) << COLUMNS_AT)
 }
 
-// What is not given is zero: no rows and columns where it succeeded.
+// What is not given is zero: no rows and columns where it succeeded, and nothing where it is erased.
 fn pack_report(r: Report) -> u64
     requires { ⌜ HasRoom (reportFigures r) ⌝ }
     ensures { λ x. ⌜ x ≡ packedFigures (reportFigures r) ⌝ }
@@ -41,6 +42,7 @@ fn pack_report(r: Report) -> u64
         Ending::Repaired => pack(DONE, r.passes, r.bits, 0, 0),
         Ending::Stuck => pack(STUCK, r.passes, r.bits, r.rows, r.columns),
         Ending::Spent => pack(SPENT, r.passes, r.bits, r.rows, r.columns),
+        Ending::Erased => pack(ERASED, 0, 0, 0, 0),
     }
 }
 

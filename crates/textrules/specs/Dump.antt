@@ -6,7 +6,7 @@ use lib.Dec.{eqb, leb}
 use lib.ListN.{length, getD}
 use Rattle.rules.specs.Codes.{smallCode}
 use Rattle.rules.specs.Passes.{clean, repaired, stuck, spent}
-use Rattle.rules.specs.Numbers.{pick, frameBytes, Decoded, refused, ended, Figures, figuresOf, decodeSaid}
+use Rattle.rules.specs.Numbers.{pick, frameBytes, Decoded, refused, erased, ended, Figures, figuresOf, decodeSaid}
 use Rattle.textrules.specs.Text.{Text, ascii, lf, tabulator, same, lines, wholeLines, fields, mostDigits, isDecimal, decimalValue, decimal, isHex, hexBytes}
 
 -- ---- The dump
@@ -71,9 +71,10 @@ badHeader = reportLine (ascii "bad header") []
 abbrev pub questioned : ℕ → Text
 questioned k = reportLine (ascii "?") (decimal k ∷ [])
 
--- a record's second field: how its decoding ended, or that the frame was refused
+-- a record's second field: how its decoding ended, or that the frame was refused or is erased
 abbrev pub endingText : Decoded → Text
 endingText (refused r) = ascii "refused"
+endingText erased = ascii "erased"
 endingText (ended clean p b r c) = ascii "clean"
 endingText (ended repaired p b r c) = ascii "repaired"
 endingText (ended stuck p b r c) = ascii "stuck"
@@ -86,6 +87,7 @@ counts v = v .passes ∷ v .bits ∷ v .rows ∷ v .columns ∷ []
 -- a record's last four fields; a refusal has its number in the place of the passes
 abbrev pub reportedCounts : Decoded → List ℕ
 reportedCounts (refused r) = r ∷ 0 ∷ 0 ∷ 0 ∷ []
+reportedCounts erased = counts (figuresOf erased)
 reportedCounts (ended e p b r c) = counts (figuresOf (ended e p b r c))
 
 -- what a record gives, from what decoding said

@@ -14,9 +14,10 @@ use Rattle.algebra.specs.Sums.{All}
 use Rattle.algebra.specs.Tables.{tab}
 use Rattle.algebra.proofs.TableLaws.{tab-zero, tab-suc, tab-ext}
 use Rattle.rules.specs.Codes.{smallCode}
+use Rattle.rules.specs.Frames.{isErased}
 use Rattle.rules.specs.Bits.{frameOf}
 use Rattle.rules.specs.Passes.{clean, repaired, stuck, spent, decoded}
-use Rattle.rules.specs.Numbers.{pick, outside, notLong, notAllowed, frameBytes, Decoded, refused, ended, told, decodeRefusal, decodeSaid}
+use Rattle.rules.specs.Numbers.{pick, outside, notLong, notAllowed, frameBytes, Decoded, refused, erased, undecoded, ended, told, decodeRefusal, decodeSaid}
 use Rattle.textrules.specs.Text.{Text, ascii, same, lines, every, digits, decimal}
 use Rattle.textrules.specs.Dump.{header, Line, badLine, aRecord, lineOf, afterTabs, reportLine, goodHeader, badHeader, endingText, reportedCounts, recordText, lineText, reportFrom, underHeader, report, reportSome, reportCut}
 use Rattle.rules.proofs.Laws.OneOfLaws.{and-both}
@@ -55,6 +56,15 @@ SpentExample =
     )
     ≡ ascii "repair\t1\n" ++ ascii "2\tspent\t1\t0\t2\t18\n"
 
+-- ones alone, with the spare bits zero
+abbrev pub ErasedExample : Type 0
+ErasedExample =
+    report (
+    ascii "frames\t1\n"
+    ++ ascii "5\t18\t2\tFFFFC0FFFFC0FFFFC0FFFFC0FFFFC0FFFFC0FFFFC0FFFFC0FFFFC0FFFFC0FFFFC0FFFFC0FFFFC0FFFFC0FFFFC0FFFFC0FFFFC0FFFFC0\n"
+    )
+    ≡ ascii "repair\t1\n" ++ ascii "5\terased\t0\t0\t0\t0\n"
+
 -- a record that breaks off, after an empty line
 abbrev pub CutExample : Type 0
 CutExample = reportCut (ascii "frames\t1\n" ++ ascii "\n" ++ ascii "0\t18\t2\t00") ≡ ascii "repair\t1\n" ++ ascii "?\t2\n"
@@ -67,6 +77,7 @@ joinedTexts (t ∷ ts) = t ++ joinedTexts ts
 -- a record's line, from what decoding said
 abbrev pub recordSays : ℕ → Decoded → Text
 recordSays number (refused r) = decimal number ++ ascii "\trefused\t" ++ decimal r ++ ascii "\t0\t0\t0\n"
+recordSays number erased = decimal number ++ ascii "\terased\t0\t0\t0\t0\n"
 recordSays number (ended clean p b r c) = decimal number ++ ascii "\tclean\t" ++ decimal p ++ ascii "\t" ++ decimal b ++ ascii "\t0\t0\n"
 recordSays number (ended repaired p b r c) = decimal number ++ ascii "\trepaired\t" ++ decimal p ++ ascii "\t" ++ decimal b ++ ascii "\t0\t0\n"
 recordSays number (ended stuck p b r c) =
@@ -77,12 +88,14 @@ recordSays number (ended spent p b r c) =
 -- number 3 does not come: the buffer lent is as long as the frame
 abbrev pub RefusedBy : Decoded → Type 0
 RefusedBy (refused r) = (r ≡ 1) ⊎ ((r ≡ 2) ⊎ (r ≡ 4))
+RefusedBy erased = Unit {0}
 RefusedBy (ended e p b r c) = Unit {0}
 
 -- what is promised of the report
 pub record Reports : Type 0 where
   pub example : Example
   pub spent-example : SpentExample
+  pub erased-example : ErasedExample
   -- under its own first line the report has what each line gives; the line at index i after the header is line i + 2
   pub numbered :
       (input : Text) (later : List Text) → lines input ≡ ascii "frames\t1" ∷ later
@@ -117,6 +130,10 @@ shown = refl
 spent-shown : SpentExample
 unfolding computing
 spent-shown = refl
+
+erased-shown : ErasedExample
+unfolding computing
+erased-shown = refl
 
 -- ---- the header
 
@@ -182,6 +199,7 @@ lines-numbered input later e =
 says : (number : ℕ) (d : Decoded) → recordText number d ≡ recordSays number d
 unfolding digits
 says number (refused r) = simp append-assoc
+says number erased = refl
 says number (ended clean p b r c) = simp append-assoc
 says number (ended repaired p b r c) = simp append-assoc
 says number (ended stuck p b r c) = simp append-assoc
@@ -189,16 +207,17 @@ says number (ended spent p b r c) = simp append-assoc
 
 refused-by : (n allowance : ℕ) (frame : List ℕ) → RefusedBy (decodeSaid smallCode n allowance frame frame)
 unfolding decodeSaid decodeRefusal
-refused-by n allowance frame = go (outside smallCode n) (notLong frame (frameBytes n)) (notAllowed allowance)
+refused-by n allowance frame = go (outside smallCode n) (notLong frame (frameBytes n)) (notAllowed allowance) (isErased n (frameOf n frame))
   where
-    r : Bool → Bool → Bool → ℕ
-    r a b c = pick a 1 (pick b 2 (pick b 3 (pick c 4 0)))
+    r : Bool → Bool → Bool → Bool → ℕ
+    r a b c d = pick a 1 (pick b 2 (pick b 3 (pick c 4 (pick d 10 0))))
 
-    go : (a b c : Bool) → RefusedBy (pick (eqb (r a b c) 0) (told (decoded smallCode n allowance (frameOf n frame))) (refused (r a b c)))
-    go true b c = inl refl
-    go false true c = inr (inl refl)
-    go false false true = inr (inr refl)
-    go false false false = tt
+    go : (a b c d : Bool) → RefusedBy (pick (eqb (r a b c d) 0) (told (decoded smallCode n allowance (frameOf n frame))) (undecoded (r a b c d)))
+    go true b c d = inl refl
+    go false true c d = inr (inl refl)
+    go false false true d = inr (inr refl)
+    go false false false true = tt
+    go false false false false = tt
 
 -- ---- one LF, at the end
 
@@ -235,6 +254,7 @@ quoted-no-lf t h =
 ending-no-lf : (d : Decoded) → NoLF (endingText d)
 unfolding every
 ending-no-lf (refused r) = quoted-no-lf (ascii "refused") refl
+ending-no-lf erased = quoted-no-lf (ascii "erased") refl
 ending-no-lf (ended clean p b r c) = quoted-no-lf (ascii "clean") refl
 ending-no-lf (ended repaired p b r c) = quoted-no-lf (ascii "repaired") refl
 ending-no-lf (ended stuck p b r c) = quoted-no-lf (ascii "stuck") refl
@@ -273,6 +293,7 @@ unfolding given
 reports = record {
   example = shown;
   spent-example = spent-shown;
+  erased-example = erased-shown;
   numbered = lines-numbered;
   bad-header = header-bad;
   no-header = header-none;

@@ -2,7 +2,7 @@
 -- Assumes nothing.
 use mathlib.Core.Path.{refl}
 use Rattle.textrules.specs.Text.{ascii}
-use Rattle.frame.specs.declared.decode.Ending.the-variants.{Clean, Repaired, Stuck, Spent}
+use Rattle.frame.specs.declared.decode.Ending.the-variants.{Clean, Repaired, Stuck, Spent, Erased}
 use Rattle.dump.proofs.ReportTextLaws.{told-here}
 use borrow.Author.Needs.{needs}
 use Rattle.dump.proofs.report.put_report.Statement.{statement}
@@ -56,6 +56,18 @@ bad-counts-requires-2 c κs = search needs
 put-line-requires-4 : tie.Need-put-line-requires-4
 put-line-requires-4 c κs = search needs
 
+enum-told-5 : tie.Need-enum-told-5
+enum-told-5 c = search needs
+
+slice-aggregate-put-line-5 : tie.Need-slice-aggregate-put-line-5
+slice-aggregate-put-line-5 c = search needs
+
+no-counts-requires : tie.Need-no-counts-requires
+no-counts-requires c κs = search needs
+
+put-line-requires-5 : tie.Need-put-line-requires-5
+put-line-requires-5 c κs = search needs
+
 same-length : tie.Need-same-length
 same-length c = search needs
 
@@ -80,6 +92,12 @@ same-length-4 c = search needs
 returns-4 : tie.Need-returns-4
 returns-4 c = let a = c .before .before .before .before .before .before .before .before .before .args in told-here (a .report) Spent (c .before .before .before .before .before .before .enum-told4 .given .1) (a .number) (ascii "spent") _ _ (c .before .before .before .bad-counts2 .ensures) refl _ _ _ _ (c .before .before .put-line4 .ensures)
 
+same-length-5 : tie.Need-same-length-5
+same-length-5 c = search needs
+
+returns-5 : tie.Need-returns-5
+returns-5 c = let a = c .before .before .before .before .before .before .before .before .before .args in told-here (a .report) Erased (c .before .before .before .before .before .before .enum-told5 .given .1) (a .number) (ascii "erased") _ _ (c .before .before .before .no-counts .ensures) refl _ _ _ _ (c .before .before .put-line5 .ensures)
+
 pub put-report-spec : {M : Type 1} → statement M
 put-report-spec =
     tie.close
@@ -100,6 +118,10 @@ put-report-spec =
     slice-aggregate-put-line-4
     bad-counts-requires-2
     put-line-requires-4
+    enum-told-5
+    slice-aggregate-put-line-5
+    no-counts-requires
+    put-line-requires-5
     same-length
     returns
     same-length-2
@@ -107,4 +129,6 @@ put-report-spec =
     same-length-3
     returns-3
     same-length-4
-    returns-4)
+    returns-4
+    same-length-5
+    returns-5)
