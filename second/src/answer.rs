@@ -18,10 +18,12 @@ pub enum Refusal {
     SpareBits,
     /// Some row or column of the frame is not a codeword.
     NotCodewords,
+    /// Every code bit of the frame is one, as in flash that was wiped.
+    Erased,
 }
 
 impl Refusal {
-    /// 1 to 6.
+    /// 1 to 6, or 10.
     pub fn number(self) -> u32 {
         match self {
             Refusal::WordLength => 1,
@@ -30,6 +32,7 @@ impl Refusal {
             Refusal::Allowance => 4,
             Refusal::SpareBits => 5,
             Refusal::NotCodewords => 6,
+            Refusal::Erased => 10,
         }
     }
 }
@@ -43,6 +46,7 @@ impl fmt::Display for Refusal {
             Refusal::Allowance => "the allowance is not 1 to 32",
             Refusal::SpareBits => "the data has a spare bit set",
             Refusal::NotCodewords => "not a frame of codewords",
+            Refusal::Erased => "the frame is erased: all its bits are ones",
         })
     }
 }

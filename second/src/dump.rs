@@ -127,6 +127,7 @@ fn answer_line(code: &Code, record: &Record) -> String {
     let mut mended = vec![0; record.frame.len()];
     match code.decode(record.n, record.allowance, &record.frame, &mut mended) {
         Ok(report) => ended_line(record.number, &report),
+        Err(Refusal::Erased) => erased_line(record.number),
         Err(refusal) => refused_line(record.number, refusal),
     }
 }
@@ -154,6 +155,10 @@ fn ending_name(ending: Ending) -> &'static str {
 
 fn bad_line(line_number: usize) -> String {
     format!("?\t{}\n", line_number)
+}
+
+fn erased_line(number: usize) -> String {
+    format!("{}\terased\t0\t0\t0\t0\n", number)
 }
 
 fn refused_line(number: usize, refusal: Refusal) -> String {

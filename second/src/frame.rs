@@ -18,6 +18,11 @@ pub fn is_frame(tables: &Tables, matrix: &Matrix) -> bool {
     all(matrix) && all(&matrix.transposed())
 }
 
+/// Whether every code bit is one.
+pub fn is_erased(matrix: &Matrix) -> bool {
+    matrix.ones() == matrix.n() * matrix.n()
+}
+
 /// Makes passes over `start` until they end. Gives the last frame too.
 pub fn mend(tables: &Tables, start: Matrix, allowance: usize) -> (Matrix, Report) {
     if is_frame(tables, &start) {

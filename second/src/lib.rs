@@ -20,6 +20,10 @@
 //! The count goes along with it: a pass adds the bits that it flips, and takes
 //! off twice those that it flips back.
 //!
+//! A matrix that has as many ones as bits is erased. It is counted before
+//! anything else is asked of a frame, and when a frame was made, before it is
+//! written out.
+//!
 //! # How this differs from the algebraic way
 //!
 //! The usual decoder takes a word's syndromes in the field of 256 elements,
@@ -70,7 +74,7 @@ impl Code {
     /// Writes to `frame` the frame of word length `n` that has `data`, k rows
     /// of k = n − 17 bits, in its upper left corner.
     ///
-    /// Refuses with numbers 1, 2, 3 and 5; `frame` is then untouched.
+    /// Refuses with numbers 1, 2, 3, 5 and 10; `frame` is then untouched.
     pub fn encode(&self, n: usize, data: &[u8], frame: &mut [u8]) -> Result<(), Refusal> {
         check_word_length(n)?;
         let k = n - CHECK_BITS;
@@ -79,19 +83,23 @@ impl Code {
             return Err(Refusal::SpareBits);
         }
         let corner = Matrix::unpack(n, k, data);
-        frame::encode(&self.tables, &corner).pack(n, frame);
+        let made = frame::encode(&self.tables, &corner);
+        check_not_erased(&made)?;
+        made.pack(n, frame);
         Ok(())
     }
 
     /// Writes to `data` the upper left corner of `frame`, whose spare bits do
     /// not matter. The spare bits of `data` become zero.
     ///
-    /// Refuses with numbers 1, 2, 3 and 6; `data` is then untouched.
+    /// Refuses with numbers 1, 2, 3, 10 and 6, looked for in this order; `data`
+    /// is then untouched.
     pub fn read(&self, n: usize, frame: &[u8], data: &mut [u8]) -> Result<(), Refusal> {
         check_word_length(n)?;
         let k = n - CHECK_BITS;
         check_lengths(frame, square_bytes(n), data, square_bytes(k))?;
         let matrix = Matrix::unpack(n, n, frame);
+        check_not_erased(&matrix)?;
         if !frame::is_frame(&self.tables, &matrix) {
             return Err(Refusal::NotCodewords);
         }
@@ -103,7 +111,7 @@ impl Code {
     ///
     /// `frame` gets the mended frame, spare bits zero, if the ending is clean
     /// or repaired, and a copy of `received` if it is stuck or spent. Refuses
-    /// with numbers 1 to 4; `frame` is then untouched.
+    /// with numbers 1 to 4 and 10; `frame` is then untouched.
     pub fn decode(
         &self,
         n: usize,
@@ -117,6 +125,7 @@ impl Code {
             return Err(Refusal::Allowance);
         }
         let start = Matrix::unpack(n, n, received);
+        check_not_erased(&start)?;
         let (last, report) = frame::mend(&self.tables, start, allowance);
         match report.ending {
             Ending::Clean | Ending::Repaired => last.pack(n, frame),
@@ -193,6 +202,15 @@ fn check_lengths(
         Err(Refusal::InputLength)
     } else if output.len() != output_bytes {
         Err(Refusal::OutputLength)
+    } else {
+        Ok(())
+    }
+}
+
+/// Comes after the checks of the arguments, and before any codeword is asked for.
+fn check_not_erased(matrix: &Matrix) -> Result<(), Refusal> {
+    if frame::is_erased(matrix) {
+        Err(Refusal::Erased)
     } else {
         Ok(())
     }

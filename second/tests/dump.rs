@@ -61,6 +61,39 @@ fn item_c_with_allowance_1_is_spent() {
     assert_eq!(answers(&dump), "5\tspent\t1\t0\t2\t18\n");
 }
 
+/// With spare bits zero and set; with one bit zero it is not erased.
+#[test]
+fn a_frame_of_ones_is_erased() {
+    let erased = "7\terased\t0\t0\t0\t0\n";
+    let frame = |n: usize, row: &str| row.repeat(n);
+    let records = [
+        (18, frame(18, "FFFFC0")),
+        (18, frame(18, "FFFFFF")),
+        (20, frame(20, "FFFFF0")),
+        (20, frame(20, "FFFFFF")),
+        (256, frame(256, &"FF".repeat(32))),
+    ];
+    for (n, frame) in records {
+        for allowance in [1, 2, 32] {
+            let line = format!("7\t{}\t{}\t{}\n", n, allowance, frame);
+            assert_eq!(answers(&line), erased);
+        }
+        for allowance in [0, 33] {
+            let line = format!("7\t{}\t{}\t{}\n", n, allowance, frame);
+            assert_eq!(answers(&line), "7\trefused\t4\t0\t0\t0\n");
+        }
+        let short = format!("7\t{}\t2\t{}\n", n, &frame[2..]);
+        assert_eq!(answers(&short), "7\trefused\t2\t0\t0\t0\n");
+        // Bit 0 of row 0.
+        let one_zero = format!("7\t{}\t2\t7{}\n", n, &frame[1..]);
+        let said = match n {
+            256 => "repaired\t1\t1\t0\t0".to_string(),
+            _ => format!("stuck\t2\t0\t{}\t{}", n, n),
+        };
+        assert_eq!(answers(&one_zero), format!("7\t{}\n", said));
+    }
+}
+
 #[test]
 fn a_missing_header_is_bad() {
     for dump in ["", "\n", "\n\n", "\nframes\t1\n", "0\t17\t2\t\n"] {

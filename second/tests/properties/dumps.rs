@@ -56,6 +56,19 @@ fn refused(random: &mut Random) -> (String, String) {
     (line_of(number, n, allowance, &vec![0; bytes]), report)
 }
 
+/// A record whose frame is erased, and the line that reports it.
+fn erased(random: &mut Random) -> (String, String) {
+    let (number, n, allowance) = (random.below(1000), 18 + random.below(20), random.below(33));
+    let mut frame = pack_square(&vec![vec![true; n]; n]);
+    set_spare_bits(random, n, &mut frame);
+    let said = match allowance {
+        0 => "refused\t4\t0\t0\t0",
+        _ => "erased\t0\t0\t0\t0",
+    };
+    let report = format!("{}\t{}\n", number, said);
+    (line_of(number, n, allowance, &frame), report)
+}
+
 /// A line that is no record.
 fn bad(random: &mut Random) -> String {
     let good = line_of(random.below(100), 18, 2, &[0xab; 54]);
@@ -78,9 +91,10 @@ fn reports_of_whole_dumps() {
         let mut dump = String::from("frames\t1");
         let mut expected = String::from("repair\t1\n");
         for i in 0..random.below(30) {
-            let (line, report) = match random.below(4) {
+            let (line, report) = match random.below(5) {
                 0 => (bad(&mut random), format!("?\t{}\n", i + 2)),
                 1 => refused(&mut random),
+                2 => erased(&mut random),
                 _ => decoded(&code, &mut random, &mut seen),
             };
             dump += &("\n".to_string() + &line);

@@ -46,7 +46,9 @@ fn plain_decode(code: &Code, allowance: usize, start: &[Vec<bool>]) -> (Report, 
         };
         if let Some(ending) = ending {
             let pairs = rows.iter().zip(start);
-            let bits = pairs.map(|(last, first)| differences(last, first).len()).sum();
+            let bits = pairs
+                .map(|(last, first)| differences(last, first).len())
+                .sum();
             let report = Report {
                 ending,
                 passes,

@@ -3,4 +3,5 @@
 mod dumps;
 mod frames;
 mod plain;
+mod spoiled;
 mod words;

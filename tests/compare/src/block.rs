@@ -5,7 +5,7 @@ use crate::case::{Case, Entry, Said};
 use crate::found::Found;
 use crate::promise::Promise;
 use second::Code;
-use shared::bits::{LONGEST, SHORTEST};
+use shared::bits::{LONGEST, NEAR_ONES, SHORTEST};
 use shared::division::{is_codeword, is_frame_of};
 use shared::random::Random;
 use shared::run::{on_all, Scale};
@@ -45,7 +45,7 @@ impl Kind {
     pub fn run(&self, code: &Code, scale: Scale) -> Tally {
         // The long words first, since they take longest.
         let all = (SHORTEST..=LONGEST).rev();
-        let lengths: Vec<usize> = all.filter(|n| !scale.quick || *n < 64 || n % 32 < 2).collect();
+        let lengths: Vec<usize> = all.filter(|n| !scale.quick || *n < 64 || n % 32 < 2 || *n == NEAR_ONES).collect();
         on_all(lengths.len() * scale.rounds, |index, tally| {
             let (n, round) = (lengths[index % lengths.len()], index / lengths.len());
             let random = scale.random(self.name, &[round as u64, n as u64]);
@@ -155,6 +155,7 @@ impl Block<'_> {
             (0, Entry::Word) => CHANGED[said.passes().min(2) as usize],
             (number @ 1..=6, _) => REFUSED[number as usize],
             (9, _) => "NoCodeword",
+            (10, _) => "Number10",
             _ => return self.note_frame(case, said, written),
         });
     }

@@ -129,7 +129,7 @@ impl Case {
             Entry::Read => 2,
             Entry::Word | Entry::Row => return Ok(()),
         };
-        let refused = (1..=6).contains(&said.number());
+        let refused = matches!(said.number(), 1..=6 | 10);
         assert!(!refused || said.output == self.output, "the second program refuses, and writes");
         let output = if refused { &[] } else { &said.output[..] };
         let numbers =

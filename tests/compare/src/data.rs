@@ -3,7 +3,7 @@
 use crate::block::Block;
 use crate::case::{Case, Entry};
 use crate::promise::Promise;
-use shared::bits::{clear_spare_bits, has_spare_bits, row_mut, square_bytes, wrong_bits, CHECK_BITS};
+use shared::bits::{all_ones, clear_spare_bits, has_spare_bits, row_mut, square_bytes, wrong_bits, CHECK_BITS};
 use shared::damage;
 use shared::written::{self, Written};
 
@@ -20,7 +20,7 @@ fn some_data(block: &mut Block, index: usize) -> Vec<u8> {
     let k = block.n - CHECK_BITS;
     let mut data = match index {
         0 => vec![0; square_bytes(k)],
-        1 => vec![0xff; square_bytes(k)],
+        1 => written::full(&mut block.random, block.n),
         _ => written::data(&mut block.random, block.n),
     };
     clear_spare_bits(k, &mut data);
@@ -85,7 +85,13 @@ pub fn read_damaged(block: &mut Block) {
         let rows = wrong.iter().filter(|&&count| count > 0).count();
         let total: usize = wrong.iter().sum();
         let case = read_case(block, frame);
-        let promise = if total > 0 && (rows < 6 || total < 36) { Promise::refused(6, &case) } else { Promise::None };
+        let promise = if all_ones(block.n, &case.input) {
+            Promise::refused(10, &case)
+        } else if total > 0 && (rows < 6 || total < 36) {
+            Promise::refused(6, &case)
+        } else {
+            Promise::None
+        };
         block.check(case, promise, &written);
     }
 }

@@ -88,7 +88,8 @@ pub fn just_mended(block: &mut Block) {
         let allowance = if kind == 4 { block.random.within(2, 32) } else { 2 };
         let case = case(block, allowance, received);
         let promise = Promise::of_frame(&case, &written);
-        assert!(!matches!(promise, Promise::None), "this damage is within the promise");
+        // Within the class, and not all ones.
+        assert!(matches!(promise, Promise::Exactly(said, _) if said & 0xff == 0), "this damage is within the promise");
         block.check(case, promise, &written);
     }
 }

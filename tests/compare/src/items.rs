@@ -3,7 +3,7 @@
 use crate::block::Block;
 use crate::case::{Case, Entry};
 use crate::promise::Promise;
-use shared::bits::{bit, bytes_for, clear_spare_bits, flip, on_spare_bits, square_bytes, SHORTEST};
+use shared::bits::{bit, bytes_for, clear_spare_bits, flip, flip_at, on_spare_bits, square_bytes, LONGEST, SHORTEST};
 
 /// The codeword of 18 that is not zero.
 const TWELVE_ONES: [u8; 3] = [0xb7, 0xb1, 0xc0];
@@ -14,6 +14,7 @@ pub fn items(block: &mut Block) {
     }
     frames(block);
     data_bit(block);
+    erased(block);
     ones(block);
     words(block);
     edges(block);
@@ -62,13 +63,49 @@ fn frames(block: &mut Block) {
     }
 }
 
-/// A word of 256 ones is a codeword; of 255 and of 254 ones it has none within two.
+/// A call that leaves the output as it is, for this number.
+fn refused(block: &mut Block, case: Case, number: u64) {
+    let promise = Promise::refused(number, &case);
+    block.check(case, promise, &[]);
+}
+
+/// A frame of ones, spare bits zero or set: at every allowance, and with each code bit zero.
+fn erased(block: &mut Block) {
+    for spare in [0, 0x3f] {
+        let frame = [0xff, 0xff, 0xc0 | spare].repeat(18);
+        for allowance in 0..=33 {
+            let case = Case::new(&mut block.random, Entry::Decode, 18, frame.clone(), 54).with(allowance);
+            refused(block, case, if (1..=32).contains(&allowance) { 10 } else { 4 });
+        }
+        for place in 0..18 * 18 {
+            let mut other = frame.clone();
+            flip_at(18, &mut other, place / 18, place % 18);
+            decode(block, 2, other, packed(7, 2, 0, 18, 18), false);
+        }
+        let case = Case::new(&mut block.random, Entry::Read, 18, frame, 1);
+        refused(block, case, 10);
+    }
+}
+
+/// Erased at 256, where the word of ones is a codeword, as where it is none. Only there data of ones has an erased frame.
 fn ones(block: &mut Block) {
-    for (n, result) in [(256, 0), (255, packed(7, 2, 0, 255, 255)), (254, packed(7, 2, 0, 254, 254))] {
-        let mut frame = vec![0xff; square_bytes(n)];
-        clear_spare_bits(n, &mut frame);
+    for n in [256, 255, 254] {
+        let frame = vec![0xff; square_bytes(n)];
         let case = Case::new(&mut block.random, Entry::Decode, n, frame.clone(), frame.len()).with(2);
-        block.check(case, Promise::Exactly(result, frame), &[]);
+        refused(block, case, 10);
+        let case = Case::new(&mut block.random, Entry::Read, n, frame, square_bytes(n - 17));
+        refused(block, case, 10);
+        let mut data = vec![0xff; square_bytes(n - 17)];
+        let case = Case::new(&mut block.random, Entry::Encode, n, data.clone(), square_bytes(n));
+        refused(block, case, 5);
+        clear_spare_bits(n - 17, &mut data);
+        let case = Case::new(&mut block.random, Entry::Encode, n, data, square_bytes(n));
+        if n == LONGEST {
+            refused(block, case, 10);
+        } else {
+            let promise = Promise::encoded(&case);
+            block.check(case, promise, &[]);
+        }
     }
 }
 

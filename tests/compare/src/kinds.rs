@@ -1,8 +1,8 @@
 //! All kinds of checks, how many cases each has for every n, and which answers it must meet.
 
 use crate::block::{Block, Kind};
-use crate::{data, edges, frames, items, knots, refusals, words};
-use shared::bits::{LONGEST, SHORTEST};
+use crate::{data, edges, erased, frames, items, knots, refusals, words};
+use shared::bits::{LONGEST, NEAR_ONES, SHORTEST};
 
 const LENGTHS: u64 = (LONGEST - SHORTEST + 1) as u64;
 
@@ -29,8 +29,15 @@ fn sum_over_lengths(cases: fn(usize) -> usize) -> u64 {
 const FOUR: &str = "Codeword OnePlace TwoPlaces NoCodeword";
 
 pub fn all() -> Vec<Kind> {
-    let parts =
-        [words_and_data, frames::whole_lines, frames::scattered, frames::made, frames::tied, edges_and_refusals];
+    let parts = [
+        words_and_data,
+        frames::whole_lines,
+        frames::scattered,
+        frames::made,
+        frames::tied,
+        of_ones,
+        edges_and_refusals,
+    ];
     parts.iter().flat_map(|part| part()).collect()
 }
 
@@ -47,6 +54,7 @@ fn words_and_data() -> Vec<Kind> {
             ..kind("words, wrong bits at places cut away", 400, "NoCodeword", words::cut_away)
         },
         kind("words, none to five wrong bits", 2400, FOUR, words::up_to_five),
+        whole("words of ones, and of ones but one", 3 * (rows + LENGTHS), FOUR, words::of_ones),
         kind("words, random bytes and ones", 1200, "TwoPlaces NoCodeword", words::random),
         kind("words, spare bits set", 400, FOUR, words::spare_bits),
         kind("data encoded and read", 40, "Encoded Read", data::encode),
@@ -54,6 +62,22 @@ fn words_and_data() -> Vec<Kind> {
         kind("reading frames with spare bits set", 20, "Read", data::read_spare_bits),
         kind("reading damaged frames", 60, "Number6", data::read_damaged),
         whole("rows, every row of a frame", rows, "Row", refusals::every_row),
+    ]
+}
+
+/// All code bits are ones, or all but a few.
+fn of_ones() -> Vec<Kind> {
+    let refused = "Number1 Number2 Number3 Number4 Number5 Number10 Encoded";
+    let one_zero = "Repaired Stuck Spent Number6";
+    vec![
+        whole("frames, erased", 15 * LENGTHS, "Number10", erased::frames),
+        whole("frames, erased but for one bit", 27 * LENGTHS, one_zero, erased::but_one_bit),
+        Kind {
+            lengths: NEAR_ONES..=NEAR_ONES,
+            ..whole("frames, erased within the class", 354, "Number10 RepairedInTwo", erased::within_the_class)
+        },
+        whole("data of ones, and of ones but one bit", 11 * LENGTHS, "Encoded Number5 Number10 Read", erased::data),
+        whole("refusals of ones, and erased after them", 144 * LENGTHS, refused, erased::refusals),
     ]
 }
 
@@ -76,6 +100,6 @@ fn edges_and_refusals() -> Vec<Kind> {
         whole("refusals of read", 100 * LENGTHS, "Number1 Number2 Number3 Number6", refusals::read),
         whole("refusals of decode", 500 * LENGTHS, "Number1 Number2 Number3 Number4", refusals::decode),
         whole("refusals of row", 70 * LENGTHS, "Row NoRow", refusals::row),
-        Kind { lengths: 18..=18, ..whole("bench items of the rules", 556, "", items::items) },
+        Kind { lengths: 18..=18, ..whole("bench items of the rules", 1347, "", items::items) },
     ]
 }

@@ -8,6 +8,7 @@ pub mod block;
 pub mod case;
 pub mod data;
 pub mod edges;
+pub mod erased;
 pub mod found;
 pub mod frames;
 pub mod items;

@@ -50,7 +50,7 @@ fn coverage(score: &mut Score, total: &Tally, scale: Scale) {
     let words = ["Codeword", "OnePlace", "TwoPlaces", "NoCodeword"];
     let frames = ["Clean", "Repaired", "Stuck", "Spent"];
     let special = ["WronglyRepaired", "RepairedLate", "StuckInTwo", "StuckLate"];
-    let refused = ["Number1", "Number2", "Number3", "Number4", "Number5", "Number6"];
+    let refused = ["Number1", "Number2", "Number3", "Number4", "Number5", "Number6", "Number10"];
     let mut met = |name, kinds: &[&str]| {
         let counts: Vec<String> = kinds.iter().map(|kind| format!("{} {}", kind, grouped(total.of(kind)))).collect();
         score.met(name, kinds.iter().all(|kind| total.of(kind) > 0), &counts.join(", "));
@@ -58,7 +58,7 @@ fn coverage(score: &mut Score, total: &Tally, scale: Scale) {
     met("the four answers for words", &words);
     met("the four endings for frames", &frames);
     met("frames that test the endings", &special);
-    met("the refusals 1 to 6", &refused);
+    met("the refusals 1 to 6, and erased", &refused);
     let (passes, bits) = (total.most("passes"), total.most("bits"));
     let all = total.missing("allowance", 1..=32).is_none() && passes == 32;
     score.met("every allowance, up to all 32 passes", all, &format!("most passes {}", passes));

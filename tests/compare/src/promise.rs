@@ -10,6 +10,8 @@ pub enum Promise {
     Exactly(u64, Vec<u8>),
     /// Number 0, and the frame of this n that has this data, by long division.
     Encoded(usize, Vec<u8>),
+    /// Any number but this one.
+    Not(u64),
 }
 
 impl Promise {
@@ -17,7 +19,7 @@ impl Promise {
         Promise::Exactly(number, case.output.clone())
     }
 
-    /// For encode, of data without spare bits set.
+    /// For encode, of data that is not refused.
     pub fn encoded(case: &Case) -> Promise {
         Promise::Encoded(case.n, case.input.clone())
     }
@@ -27,13 +29,15 @@ impl Promise {
             Promise::None => true,
             Promise::Exactly(result, output) => said.result == *result && said.output == *output,
             Promise::Encoded(n, data) => said.result == 0 && is_frame_of(*n, data, &said.output),
+            Promise::Not(number) => said.number() != *number,
         }
     }
 
-    /// What follows for decode from the rows' numbers of wrong bits.
+    /// What follows for decode, at a good allowance, from the rows' numbers of wrong bits, or since all bits are ones.
     pub fn of_frame(case: &Case, written: &[u8]) -> Promise {
         let mended = |passes: u64, wrong| Promise::Exactly(passes << 8 | (wrong as u64) << 16, written.to_vec());
         match follows(case.n, case.argument, written, &case.input) {
+            Follows::Erased => Promise::refused(10, case),
             Follows::Clean => mended(0, 0),
             Follows::OnePass(wrong) => mended(1, wrong),
             Follows::TwoPasses(wrong) => mended(2, wrong),

@@ -3,7 +3,7 @@
 use crate::block::Block;
 use crate::case::{Case, Entry};
 use crate::promise::Promise;
-use shared::bits::{bytes_for, has_spare_bits, row as row_of, square_bytes, CHECK_BITS, LONGEST, SHORTEST};
+use shared::bits::{all_ones, bytes_for, has_spare_bits, row as row_of, square_bytes, CHECK_BITS, LONGEST, SHORTEST};
 
 pub fn encode(block: &mut Block) {
     refusals(block, Entry::Encode);
@@ -33,7 +33,7 @@ fn bad_lengths() -> Vec<usize> {
 }
 
 /// The lengths of input and output that n asks for.
-fn exact(entry: Entry, n: usize) -> (usize, usize) {
+pub fn exact(entry: Entry, n: usize) -> (usize, usize) {
     let k = n - CHECK_BITS;
     match entry {
         Entry::Encode => (square_bytes(k), square_bytes(n)),
@@ -48,8 +48,8 @@ fn around(len: usize, other: usize) -> [usize; 6] {
     [len, len - 1, len + 1, 0, 2 * len, other]
 }
 
-/// The first check that applies, for numbers 1 to 5.
-fn refusal(case: &Case) -> Option<u64> {
+/// The first check that applies, for numbers 1 to 5, and then 10.
+pub fn refusal(case: &Case) -> Option<u64> {
     if !(SHORTEST..=LONGEST).contains(&case.n) {
         return Some(1);
     }
@@ -60,7 +60,17 @@ fn refusal(case: &Case) -> Option<u64> {
         (4, case.entry == Entry::Decode && !(1..=32).contains(&case.argument)),
         (5, case.entry == Entry::Encode && has_spare_bits(case.n - CHECK_BITS, &case.input)),
     ];
-    reasons.iter().find(|(_, applies)| *applies).map(|&(number, _)| number)
+    let first = reasons.iter().find(|(_, applies)| *applies).map(|&(number, _)| number);
+    first.or_else(|| is_erased(case).then_some(10))
+}
+
+/// Of a case whose lengths are right. All ones are a frame at n = 256 alone.
+fn is_erased(case: &Case) -> bool {
+    match case.entry {
+        Entry::Decode | Entry::Read => all_ones(case.n, &case.input),
+        Entry::Encode => case.n == LONGEST && all_ones(case.n - CHECK_BITS, &case.input),
+        Entry::Word | Entry::Row => false,
+    }
 }
 
 fn refusals(block: &mut Block, entry: Entry) {

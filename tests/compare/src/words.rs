@@ -4,6 +4,7 @@ use crate::block::Block;
 use crate::case::{Case, Entry};
 use crate::promise::Promise;
 use shared::bits::{bit, bytes_for, flip, ones, spare_mask, xor, CHECK_BITS, LONGEST, SHORTEST};
+use shared::division::Places;
 
 fn case(block: &mut Block, n: usize, received: Vec<u8>) -> Case {
     Case::new(&mut block.random, Entry::Word, n, received, bytes_for(n))
@@ -111,6 +112,33 @@ pub fn cut_away(block: &mut Block) {
         let promise = Promise::no_codeword(&case);
         block.check(case, promise, &[]);
     }
+}
+
+/// The word of n ones, and those of ones but one. That of 256 ones is a codeword: a word is never erased.
+pub fn of_ones(block: &mut Block) {
+    let n = block.n;
+    let places = Places::new(n);
+    for zero in (0..n).map(Some).chain([None]) {
+        let ones: Vec<usize> = (0..n).filter(|&place| Some(place) != zero).collect();
+        let mut word = vec![0; bytes_for(n)];
+        ones.iter().for_each(|&place| flip(&mut word, place));
+        let near = places.near(&ones);
+        near.iter().flatten().for_each(|&place| flip(&mut word, place));
+        for spare in [0, 0xff, block.random.byte()] {
+            match &near {
+                Some(wrong) => check_damaged(block, &word, wrong, spare),
+                None => check_beyond(block, &word, spare),
+            }
+        }
+    }
+}
+
+fn check_beyond(block: &mut Block, word: &[u8], spare: u8) {
+    let mut received = word.to_vec();
+    received[word.len() - 1] |= spare & spare_mask(block.n);
+    let case = case(block, block.n, received);
+    let promise = Promise::no_codeword(&case);
+    block.check(case, promise, &[]);
 }
 
 /// Random bytes, and words of ones with some zeros.

@@ -160,8 +160,19 @@ impl Kind {
 }
 
 /// What a line of a report can be.
-pub const WORDS: [&str; 10] =
-    ["clean", "repaired", "stuck", "spent", "refused 1", "refused 2", "refused 4", "?", "repair 1", "bad header"];
+pub const WORDS: [&str; 11] = [
+    "clean",
+    "repaired",
+    "stuck",
+    "spent",
+    "refused 1",
+    "refused 2",
+    "refused 4",
+    "erased",
+    "?",
+    "repair 1",
+    "bad header",
+];
 
 /// Counts a dump by the report on it.
 fn note(tally: &mut Tally, dump: &Dump, report: &[u8]) {

@@ -65,7 +65,7 @@ fn at_18() -> Vec<Line> {
         line(11, 18, 1, &data_bit_1(), "clean 0 0 0 0"),
         line(12, 18, 1, &spare, "clean 0 0 0 0"),
         line(13, 18, 1, &only_last, "repaired 1 1 0 0"),
-        line(14, 18, 32, &ones(18, true), "stuck 2 0 18 18"),
+        line(14, 18, 32, &ones(18, true), "erased 0 0 0 0"),
         line(15, 18, 1, &a, "clean 0 0 0 0"),
         line(16, 18, 32, &a, "clean 0 0 0 0"),
         line(17, 18, 0, &a, "refused 4 0 0 0"),
@@ -90,18 +90,33 @@ fn most_bits() -> Vec<Line> {
     counts.into_iter().map(record).collect()
 }
 
-fn of_ones() -> Vec<Line> {
-    let both = [true, false];
-    let mut lines = vec![line(999_999_999, 256, 1, &ones(256, true), "clean 0 0 0 0")];
-    for (number, spare) in both.into_iter().enumerate() {
-        lines.push(line(number, 255, 2, &ones(255, spare), "stuck 2 0 255 255"));
-        lines.push(line(number, 254, 1, &ones(254, spare), "spent 1 0 254 254"));
+/// Ones are erased, whatever the spare bits, but not at a bad allowance or length. With the last bit zero they are decoded: at
+/// 256 they are a frame with one wrong bit, and at the other n here all words are beyond.
+fn of_ones(n: usize) -> Vec<Line> {
+    let all = format!(" 0 {} {}", n, n);
+    let [once, twice] = match n {
+        256 => ["repaired 1 1 0 0"; 2].map(String::from),
+        _ => ["spent 1", "stuck 2"].map(|ending| ending.to_string() + &all),
+    };
+    let mut lines = Vec::new();
+    // At 256 there are no spare bits.
+    for spare in [true, false].into_iter().take(if n == 256 { 1 } else { 2 }) {
+        let frame = ones(n, spare);
+        lines.push(line(999_999_999, n, 1, &frame, "erased 0 0 0 0"));
+        lines.push(line(0, n, 32, &frame, "erased 0 0 0 0"));
+        lines.push(line(1, n, if spare { 0 } else { 33 }, &frame, "refused 4 0 0 0"));
+        lines.push(line(2, n, 2, &frame[1..], "refused 2 0 0 0"));
+        let mut short = frame;
+        flip_at(n, &mut short, n - 1, n - 1);
+        lines.push(line(3, n, 1, &short, &once));
+        lines.push(line(4, n, 2, &short, &twice));
     }
     lines
 }
 
 pub fn all() -> Vec<Dump> {
-    let parts = [example(), at_18(), of_ones(), most_bits()];
+    let mut parts = vec![example(), at_18(), most_bits()];
+    parts.extend([18, 20, 195, 256].map(of_ones));
     let mut dumps = vec![Dump::of(parts.concat(), true)];
     for lines in parts {
         dumps.push(Dump::of(lines.clone(), true));

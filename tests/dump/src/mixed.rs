@@ -62,6 +62,7 @@ pub fn every_length(maker: &mut Maker, index: usize) -> Dump {
         records::within_promise(maker, n),
         records::past_promise(maker, n),
         records::random_frame(maker, n),
+        records::erased(maker, n),
     ];
     Dump::of(lines, maker.random.once_in(2))
 }

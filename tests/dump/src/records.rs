@@ -2,7 +2,9 @@
 
 use crate::text::{Expect, Line};
 use second::Code;
-use shared::bits::{bytes_for, follows, on_spare_bits, row_mut, square_bytes, Follows, LONGEST, SHORTEST};
+use shared::bits::{
+    bytes_for, clear_spare_bits, flip_at, follows, on_spare_bits, row_mut, square_bytes, Follows, LONGEST, SHORTEST,
+};
 use shared::damage;
 use shared::random::Random;
 use shared::score::hex;
@@ -53,7 +55,7 @@ pub fn written(maker: &mut Maker, n: usize) -> Vec<u8> {
     full_frame(maker.code, &mut maker.random, n).frame
 }
 
-/// The record of a frame that was `written`, and what follows from its rows' wrong bits.
+/// The record of a frame that was `written`, and what follows from its rows' wrong bits, or since all of them are ones.
 fn received(maker: &mut Maker, n: usize, written: &[u8], mut frame: Vec<u8>) -> Line {
     if maker.random.once_in(4) {
         let random = &mut maker.random;
@@ -62,6 +64,7 @@ fn received(maker: &mut Maker, n: usize, written: &[u8], mut frame: Vec<u8>) -> 
     let (number, allowance) = (number(&mut maker.random), allowance(&mut maker.random));
     let text = text(number, n, allowance, &frame);
     match follows(n, allowance, written, &frame) {
+        Follows::Erased => Line::says(text, number, "erased 0 0 0 0"),
         Follows::Clean => Line::says(text, number, "clean 0 0 0 0"),
         Follows::OnePass(wrong) => Line::says(text, number, &format!("repaired 1 {} 0 0", wrong)),
         Follows::TwoPasses(wrong) => Line::says(text, number, &format!("repaired 2 {} 0 0", wrong)),
@@ -110,11 +113,40 @@ pub fn random_frame(maker: &mut Maker, n: usize) -> Line {
     Line { text: text(number, n, allowance, &frame), expect: Expect::Ended { number, allowance } }
 }
 
+/// n rows of n ones, spare bits zero, set or at random.
+fn ones(random: &mut Random, n: usize) -> Vec<u8> {
+    let mut frame = vec![0xff; square_bytes(n)];
+    match random.below(3) {
+        0 => clear_spare_bits(n, &mut frame),
+        1 => on_spare_bits(n, &mut frame, |byte, mask| *byte &= !mask | random.byte()),
+        _ => {}
+    }
+    frame
+}
+
+/// Erased; or ones at a bad allowance, or all ones but one bit, which are not.
+pub fn erased(maker: &mut Maker, n: usize) -> Line {
+    let random = &mut maker.random;
+    let (number, good, mut frame) = (number(random), allowance(random), ones(random, n));
+    match random.below(4) {
+        0 => {
+            let bad = [0, 33, 999_999_999][random.below(3)];
+            Line::says(text(number, n, bad, &frame), number, "refused 4 0 0 0")
+        }
+        1 => {
+            flip_at(n, &mut frame, random.below(n), [random.below(n), n - 1][random.below(2)]);
+            Line { text: text(number, n, good, &frame), expect: Expect::Ended { number, allowance: good } }
+        }
+        _ => Line::says(text(number, n, good, &frame), number, "erased 0 0 0 0"),
+    }
+}
+
 pub fn any_frame(maker: &mut Maker, n: usize) -> Line {
-    match maker.random.below(8) {
+    match maker.random.below(9) {
         0 | 1 => clean(maker, n),
         2..=4 => within_promise(maker, n),
         5 | 6 => past_promise(maker, n),
+        7 => erased(maker, n),
         _ => random_frame(maker, n),
     }
 }

@@ -4,7 +4,7 @@
 pub struct Said<'a> {
     pub number: usize,
     pub ending: &'a str,
-    /// Passes, bits, rows, columns; the number of a refusal and three zeros.
+    /// Passes, bits, rows, columns; the number of a refusal and three zeros; of an erased one four zeros.
     pub counts: [usize; 4],
 }
 
@@ -33,7 +33,7 @@ impl Said<'_> {
     fn possible(&self) -> bool {
         let [passes, bits, rows, columns] = self.counts;
         match self.ending {
-            "clean" => self.counts == [0; 4],
+            "clean" | "erased" => self.counts == [0; 4],
             "repaired" => (1..=32).contains(&passes) && bits > 0 && rows == 0 && columns == 0,
             "stuck" => (2..=32).contains(&passes) && rows + columns > 0,
             "spent" => (1..=32).contains(&passes) && rows + columns > 0,

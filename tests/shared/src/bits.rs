@@ -4,6 +4,9 @@ pub const SHORTEST: usize = 18;
 pub const LONGEST: usize = 256;
 pub const CHECK_BITS: usize = 17;
 
+/// The least n at which the word of n ones has a codeword within two places, places 2 and 21.
+pub const NEAR_ONES: usize = 80;
+
 /// The fewest whole bytes for `bits` bits.
 pub fn bytes_for(bits: usize) -> usize {
     (bits + 7) / 8
@@ -73,6 +76,12 @@ pub fn xor(bytes: &mut [u8], other: &[u8]) {
     }
 }
 
+/// Whether all bits are ones, of rows that have so many bits each; spare bits do not matter.
+pub fn all_ones(bits: usize, rows: &[u8]) -> bool {
+    let mut rows = rows.chunks_exact(bytes_for(bits));
+    rows.all(|row| (0..bits).all(|place| bit(row, place)))
+}
+
 /// How many code bits of each row differ between two frames.
 pub fn wrong_bits(n: usize, written: &[u8], received: &[u8]) -> Vec<usize> {
     let mut damage = written.to_vec();
@@ -81,8 +90,10 @@ pub fn wrong_bits(n: usize, written: &[u8], received: &[u8]) -> Vec<usize> {
     damage.chunks_exact(bytes_for(n)).map(ones).collect()
 }
 
-/// What follows for decode from the rows' numbers of wrong bits.
+/// What follows for decode from what was received, and from the rows' numbers of wrong bits.
 pub enum Follows {
+    /// All code bits are ones, whatever was written.
+    Erased,
     Clean,
     /// So many wrong bits, all mended in one pass over rows.
     OnePass(usize),
@@ -92,6 +103,9 @@ pub enum Follows {
 }
 
 pub fn follows(n: usize, allowance: usize, written: &[u8], received: &[u8]) -> Follows {
+    if all_ones(n, received) {
+        return Follows::Erased;
+    }
     let rows = wrong_bits(n, written, received);
     let wrong: usize = rows.iter().sum();
     match rows.iter().filter(|&&count| count > 2).count() {

@@ -92,10 +92,24 @@ impl Places {
         Places { n, remainders, places }
     }
 
+    /// The places, two at most, after whose change the word that has just these ones is a codeword; or nothing, if it is beyond.
+    pub fn near(&self, ones: &[usize]) -> Option<Vec<usize>> {
+        let sum = self.sum(ones);
+        match ones.len() % 2 {
+            1 => self.places[sum].map(|place| vec![place]),
+            _ if sum == 0 => Some(Vec::new()),
+            _ => self.other_two(ones).map(|(a, b)| vec![a.min(b), a.max(b)]),
+        }
+    }
+
+    fn sum(&self, ones: &[usize]) -> usize {
+        ones.iter().fold(0, |sum, &place| sum ^ self.remainders[place])
+    }
+
     /// The two places that make a codeword of six ones out of these four, if there are any. If not,
     /// no codeword is within two of the four: none but zero has fewer ones than six.
     pub fn other_two(&self, four: &[usize]) -> Option<(usize, usize)> {
-        let sum = four.iter().fold(0, |sum, &place| sum ^ self.remainders[place]);
+        let sum = self.sum(four);
         (0..self.n).find_map(|fifth| {
             let sixth = self.places[sum ^ self.remainders[fifth]]?;
             Some((fifth, sixth))

@@ -1,6 +1,6 @@
 //! Data, codewords and frames as they were before any damage.
 
-use crate::bits::{bytes_for, clear_spare_bits, flip, flip_at, square_bytes, xor, CHECK_BITS};
+use crate::bits::{bytes_for, clear_spare_bits, flip, flip_at, square_bytes, xor, CHECK_BITS, LONGEST};
 use crate::division::Places;
 use crate::random::Random;
 use second::Code;
@@ -10,12 +10,23 @@ pub struct Written {
     pub frame: Vec<u8>,
 }
 
+/// k rows of k ones; but one is zero at n = 256, where the frame of all ones would be erased.
+pub fn full(random: &mut Random, n: usize) -> Vec<u8> {
+    let k = n - CHECK_BITS;
+    let mut data = vec![0xff; square_bytes(k)];
+    clear_spare_bits(k, &mut data);
+    if n == LONGEST {
+        flip_at(k, &mut data, random.below(k), random.below(k));
+    }
+    data
+}
+
 /// k rows of k bits: random, sometimes empty, full, or nearly empty.
 pub fn data(random: &mut Random, n: usize) -> Vec<u8> {
     let k = n - CHECK_BITS;
     let mut data = match random.below(8) {
         0 => vec![0; square_bytes(k)],
-        1 => vec![0xff; square_bytes(k)],
+        1 => full(random, n),
         2 => {
             let mut data = vec![0; square_bytes(k)];
             for _ in 0..random.within(1, 4) {

@@ -3,11 +3,12 @@
 
 use compare::kinds;
 use second::Code;
+use shared::bits::NEAR_ONES;
 use std::io::{stdout, BufWriter, Write};
 
 /// The lengths at which every kind of case is made; at the others, those which say most.
 fn is_boundary(n: usize) -> bool {
-    n <= 33 || n % 64 < 2 || n % 64 == 63 || n % 32 == 5 || [195, 247, 248, 249, 250, 254].contains(&n)
+    n <= 33 || n % 64 < 2 || n % 64 == 63 || n % 32 == 5 || [NEAR_ONES, 195, 247, 248, 249, 250, 254].contains(&n)
 }
 
 fn main() {

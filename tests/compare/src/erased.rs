@@ -1,0 +1,210 @@
+//! Erased frames, whose code bits are all ones: what comes before number 10, what after it, and what is next to such a frame.
+
+use crate::block::Block;
+use crate::case::{Case, Entry};
+use crate::frames::case as decode_case;
+use crate::promise::Promise;
+use crate::refusals::{exact, refusal};
+use shared::bits::{bytes_for, clear_spare_bits, flip_at, row_mut, square_bytes, CHECK_BITS, SHORTEST};
+use shared::damage;
+use shared::division::Places;
+use shared::random::Random;
+use shared::written::add_crossings;
+
+/// `size` rows of `size` ones: spare bits zero, set and at random; and, where there are any, one alone set and one alone zero.
+fn of_ones(random: &mut Random, size: usize) -> Vec<Vec<u8>> {
+    let set = vec![0xff; square_bytes(size)];
+    let mut zero = set.clone();
+    clear_spare_bits(size, &mut zero);
+    let mut some = zero.clone();
+    damage::set_spare_bits(random, size, &mut some);
+    let mut forms = vec![zero, set, some];
+    let spare = 8 * bytes_for(size) - size;
+    if spare > 0 {
+        for form in 0..2 {
+            let mut one = forms[form].clone();
+            flip_at(size, &mut one, random.below(size), size + random.below(spare));
+            forms.push(one);
+        }
+    }
+    forms
+}
+
+/// One of these forms, with the code bit j of row i zero.
+fn with_zero(random: &mut Random, n: usize, (i, j): (usize, usize)) -> Vec<u8> {
+    let mut forms = of_ones(random, n);
+    let mut frame = forms.swap_remove(random.below(forms.len()));
+    flip_at(n, &mut frame, i, j);
+    frame
+}
+
+fn read_case(block: &mut Block, frame: Vec<u8>) -> Case {
+    block.case(Entry::Read, frame, square_bytes(block.n - CHECK_BITS))
+}
+
+fn encode_case(block: &mut Block, data: Vec<u8>) -> Case {
+    block.case(Entry::Encode, data, square_bytes(block.n))
+}
+
+fn check_refused(block: &mut Block, case: Case, number: u64) {
+    let promise = Promise::refused(number, &case);
+    block.check(case, promise, &[]);
+}
+
+/// Whatever the spare bits and the allowance. Reading, it is 10 also where the ones are no frame.
+pub fn frames(block: &mut Block) {
+    for frame in of_ones(&mut block.random, block.n) {
+        for allowance in [1, 2, block.random.within(3, 31), 32] {
+            let case = decode_case(block, allowance, frame.clone());
+            check_refused(block, case, 10);
+        }
+        let case = read_case(block, frame);
+        check_refused(block, case, 10);
+    }
+}
+
+/// At the corners, in the last column, next to the spare bits, and anywhere.
+pub fn but_one_bit(block: &mut Block) {
+    let (n, last) = (block.n, block.n - 1);
+    let places = Places::new(n);
+    let mut zeros = vec![(0, 0), (0, last), (last, 0), (last, last), (block.random.below(n), last)];
+    zeros.extend((0..4).map(|_| (block.random.below(n), block.random.below(n))));
+    for zero in zeros {
+        let frame = with_zero(&mut block.random, n, zero);
+        for allowance in [1, block.random.within(2, 32)] {
+            let case = decode_case(block, allowance, frame.clone());
+            let promise = of_one_zero(&places, &case, zero);
+            block.check(case, promise, &[]);
+        }
+        let case = read_case(block, frame);
+        check_refused(block, case, 6);
+    }
+}
+
+/// If all words are beyond, no pass flips a bit. If the word of ones is a codeword, pass 1 mends the one bit.
+fn of_one_zero(places: &Places, case: &Case, (i, j): (usize, usize)) -> Promise {
+    let n = case.n;
+    let near = |zero| places.near(&(0..n).filter(|&place| place != zero).collect::<Vec<_>>());
+    let words = [n, i, j].map(near);
+    if words[0] == Some(Vec::new()) {
+        let mut mended = vec![0xff; case.input.len()];
+        clear_spare_bits(n, &mut mended);
+        return Promise::Exactly(1 << 8 | 1 << 16, mended);
+    }
+    let (beyond, all) = (words.iter().all(Option::is_none), (n as u64) << 32 | (n as u64) << 48);
+    match case.argument {
+        _ if !beyond => Promise::Not(10),
+        1 => Promise::Exactly(8 | 1 << 8 | all, case.input.clone()),
+        _ => Promise::Exactly(7 | 2 << 8 | all, case.input.clone()),
+    }
+}
+
+/// Where the word of ones has a codeword two places away, the crossings of that one with itself are a frame. Ones are this frame
+/// with two rows lost and two wrong bits in each other row: within the class, and erased. With a zero among them it comes back.
+pub fn within_the_class(block: &mut Block) {
+    let (n, k) = (block.n, block.n - CHECK_BITS);
+    let lost = match Places::new(n).near(&(0..n).collect::<Vec<_>>()) {
+        Some(two) if two.len() == 2 => two,
+        _ => return,
+    };
+    let ones: Vec<usize> = (0..n).filter(|place| !lost.contains(place)).collect();
+    let in_data: Vec<usize> = ones.iter().copied().filter(|&place| place < k).collect();
+    let (mut data, mut written) = (vec![0; square_bytes(k)], vec![0; square_bytes(n)]);
+    add_crossings(k, &mut data, &in_data, &in_data);
+    add_crossings(n, &mut written, &ones, &ones);
+    block.divide(&data, &written, true);
+    let case = encode_case(block, data);
+    block.check(case, Promise::Exactly(0, written.clone()), &[]);
+    for frame in of_ones(&mut block.random, n) {
+        for allowance in [1, 2, 32] {
+            let case = decode_case(block, allowance, frame.clone());
+            check_refused(block, case, 10);
+        }
+    }
+    spoiled(block, &written, [lost[0], lost[1]]);
+}
+
+/// All but two rows have two wrong bits, or one: ones with a zero in a lost row, or where the ones are wrong; lost rows of noise;
+/// and, no more of the class, a zero where a one is right.
+fn spoiled(block: &mut Block, written: &[u8], lost: [usize; 2]) {
+    let n = block.n;
+    let (any, other) = (block.random.below(n), (lost[0] + 1) % n);
+    let mut all = [(lost[0], any), (lost[1], any), (any, lost[0]), (any, lost[1])]
+        .map(|zero| with_zero(&mut block.random, n, zero))
+        .to_vec();
+    for rows in [&lost[..1], &lost[1..], &lost[..]] {
+        let mut noise = vec![0xff; written.len()];
+        rows.iter().for_each(|&i| block.random.fill(row_mut(n, &mut noise, i)));
+        all.push(noise);
+    }
+    for received in all {
+        let allowance = block.random.within(2, 32);
+        let case = decode_case(block, allowance, received);
+        let promise = Promise::of_frame(&case, written);
+        assert!(matches!(promise, Promise::Exactly(said, _) if said & 0xff == 0), "this damage is within the promise");
+        block.check(case, promise, written);
+    }
+    let received = with_zero(&mut block.random, n, (other, other));
+    let case = decode_case(block, 32, received);
+    block.check(case, Promise::Not(10), written);
+}
+
+/// At n = 256 alone the frame of ones is erased; and a spare bit is seen before it.
+pub fn data(block: &mut Block) {
+    let k = block.n - CHECK_BITS;
+    let forms = of_ones(&mut block.random, k);
+    for place in [0, k * k - 1, block.random.below(k * k), block.random.below(k * k)] {
+        let mut data = forms[0].clone();
+        flip_at(k, &mut data, place / k, place % k);
+        let case = encode_case(block, data.clone());
+        let promise = Promise::encoded(&case);
+        block.check(case, promise, &[]);
+        let written = block.write(data);
+        let case = read_case(block, written.frame.clone());
+        block.check(case, Promise::Exactly(0, written.data), &written.frame);
+    }
+    for data in forms {
+        let case = encode_case(block, data);
+        check_ones(block, case);
+    }
+}
+
+/// A case whose bits are all ones: refused, or encoded.
+fn check_ones(block: &mut Block, case: Case) {
+    match refusal(&case) {
+        Some(number) => check_refused(block, case, number),
+        None => {
+            let promise = Promise::encoded(&case);
+            block.check(case, promise, &[]);
+        }
+    }
+}
+
+/// Numbers 1 to 5 come before 10, whichever of them are there, and 6 after it.
+pub fn refusals(block: &mut Block) {
+    for entry in [Entry::Encode, Entry::Read, Entry::Decode] {
+        let (input, output) = exact(entry, block.n);
+        for n in [block.n, SHORTEST - 1, block.n + 256] {
+            for input in [input, input - 1] {
+                for output in [output, output + 1] {
+                    refusals_of(block, entry, n, (input, output));
+                }
+            }
+        }
+    }
+}
+
+fn refusals_of(block: &mut Block, entry: Entry, n: usize, (input, output): (usize, usize)) {
+    let size = if entry == Entry::Encode { block.n - CHECK_BITS } else { block.n };
+    let allowances = if entry == Entry::Decode { &[0, 1, 32, 33][..] } else { &[0] };
+    for &allowance in allowances {
+        for spare in [true, false] {
+            let mut ones = vec![0xff; input];
+            if !spare {
+                clear_spare_bits(size, &mut ones);
+            }
+            let case = Case::new(&mut block.random, entry, n, ones, output).with(allowance);
+            check_ones(block, case);
+        }
+    }
+}
