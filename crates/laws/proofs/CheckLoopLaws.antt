@@ -9,20 +9,19 @@ use native.Mathlib.Numerals.{add-one}
 use native.Mathlib.Omega.{arith}
 use borrow.Author.Tests.{lt-ltb, le-ltb}
 use lib.Bits.{bitXor}
-use lib.ListN.{length, take}
+use lib.ListN.{length}
 use lib.Pow.{pow-pos}
-use lib.Seq.{length-take-le, getD-take}
 use Rattle.algebra.specs.Xor.{_⊕_}
 use Rattle.algebra.specs.Tables.{tab, num, ones}
-use Rattle.algebra.specs.Words.{Word, bit}
+use Rattle.algebra.specs.Words.{Word}
 use Rattle.algebra.specs.Remainder.{shift, register, isOdd}
 use Rattle.algebra.proofs.Digits.{num-le, num-odd}
-use Rattle.algebra.proofs.TableLaws.{tab-zero, tab-suc, tab-length}
+use Rattle.algebra.proofs.TableLaws.{tab-zero, tab-suc}
 use Rattle.rules.specs.Field.{poly}
 use Rattle.rules.specs.Codes.{Code, g, smallCode}
 use Rattle.rules.specs.Words.{withParity, frontBits, remainder, checks}
 use Rattle.rules.specs.Bits.{bitAt}
-use Rattle.rules.proofs.Laws.Shape.{word-ext, bit-tab}
+use Rattle.rules.proofs.Laws.Shape.{take-tab}
 use Rattle.rules.proofs.Laws.CodeLaws.{Sound, shift-below}
 use Rattle.rules.proofs.Laws.CheckLaws.{ones-last}
 use Rattle.laws.specs.InPlace.{bitsAt, wordAt, Inside}
@@ -53,13 +52,6 @@ pub tab-last {ℓ} : {A : Type ℓ} (n : ℕ) (f : ℕ → A) → tab (suc n) f 
 tab-last zero f = tab-suc 0 f ∙ ap (λ l. f 0 ∷ l) (tab-zero (λ i. f (suc i))) ∙ ap (λ l. l ++ f 0 ∷ []) (sym (tab-zero f))
 tab-last (suc n) f =
     tab-suc (suc n) f ∙ ap (λ l. f 0 ∷ l) (tab-last n (λ i. f (suc i))) ∙ ap (λ l. l ++ f (suc n) ∷ []) (sym (tab-suc n f))
-
--- the first m bits of a word made by a rule
-pub take-tab : (m n : ℕ) (p : ℕ → Bool) → m ≤ n → take m (tab n p) ≡ tab m p
-unfolding bit
-take-tab m n p h =
-    word-ext m (take m (tab n p)) (tab m p) (length-take-le m (tab n p) (omega (arith, tab-length n p))) (tab-length m p)
-    (λ j hj. getD-take m (tab n p) j false hj ∙ bit-tab n p j (omega arith) ∙ sym (bit-tab m p j hj))
 
 pub wordAt-none : (s : List ℕ) (start step : ℕ) → wordAt 0 s start step ≡ []
 unfolding wordAt

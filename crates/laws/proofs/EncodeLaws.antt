@@ -19,13 +19,12 @@ use Rattle.rules.specs.Frames.{Frame, row, cell, transposed, isErased, rowsFirs
 use Rattle.rules.specs.Bits.{squareBytes, frameOf, bytesOf, spareOnes}
 use Rattle.rules.specs.Numbers.{outside, RefusalList, first, dataBytes, frameBytes, encodeRefusals, frameFor, encodeNumber, encodeOutput}
 use Rattle.rules.proofs.Laws.CodeLaws.{Sound}
-use Rattle.rules.proofs.Laws.Shape.{word-ext, bit-tab, row-tab, transposed-row, frameOf-square}
+use Rattle.rules.proofs.Laws.Shape.{word-ext, bit-tab, take-tab, row-tab, transposed-row, frameOf-square}
 use Rattle.rules.proofs.Laws.PackLaws.{bytesOf-length, frame-of-bytes}
 use Rattle.rules.proofs.Laws.EncodeWordLaws.{encode-length}
 use Rattle.rules.proofs.Laws.NumberLaws.{Sized, encode-accepts, encode-refused, at-zero}
 use Rattle.laws.specs.InPlace.{wordAt, put, Inside}
 use Rattle.laws.specs.Turns.{turned, startOf, stepOf, partly, worked, completed, cornered, Whole, Ready}
-use Rattle.laws.proofs.CheckLoopLaws.{take-tab}
 use Rattle.laws.proofs.CornerLaws.{cornered-square, ready}
 use Rattle.laws.proofs.RefusalLaws.{size-1, size-2, size-3, size-later}
 use Rattle.laws.proofs.TurnLaws.{Keeps, worked-square, worked-none, worked-later, word-inside, word-there, put-worked}

@@ -6,9 +6,9 @@ use mathlib.Core.Bool.{Bool, true, false, true≢false}
 use Prim.Native.Nat.{ℕ, _≤_, _<_}
 use native.Mathlib.Omega.{arith}
 use Rattle.algebra.specs.Tables.{tab, every}
-use Rattle.algebra.specs.Words.{Word, bit}
+use Rattle.algebra.specs.Words.{Word}
 use Rattle.algebra.proofs.TableLaws.{tab-length, every-each}
-use Rattle.rules.specs.Codes.{Code, dataBits}
+use Rattle.rules.specs.Codes.{Code}
 use Rattle.rules.specs.Words.{isCodeword}
 use Rattle.rules.specs.Frames.{Frame, Square, row, cell, transposed, isFrame, isErased, corner}
 use Rattle.rules.proofs.Laws.Shape.{word-ext, square-ext, square-tab, bit-tab, row-tab, cell-tab, transposed-square, transposed-cell, corner-cell}

@@ -1,13 +1,13 @@
 -- The checks of the entry points: when each accepts, which numbers can occur, and what is said and written by the number.
 -- Assumes nothing.
 use mathlib.Core.Path.{_≡_, refl, sym, ap, _∙_}
-use mathlib.Core.Logic.{_≢_, _↔_, _⊎_, inl, inr, Iff·trans, Iff·rfl, Iff·and}
+use mathlib.Core.Logic.{_≢_, _↔_, _⊎_, inl, inr, Iff·trans, Iff·rfl}
 use mathlib.Core.Bool.{Bool, true, false, not, _&&_, true≢false}
 use mathlib.Core.List.{List, [], _∷_, map}
 use Prim.Native.Nat.{ℕ, _≤_}
 use native.Mathlib.Omega.{arith}
 use lib.Dec.{eqb, leb}
-use lib.ListN.{length, drop}
+use lib.ListN.{length}
 use borrow.Author.Tests.{eqb-true, eqb-false, eq-eqb, ne-eqb, leb-true, le-leb, not-false}
 use Rattle.rules.specs.Codes.{Code, dataBits}
 use Rattle.rules.specs.Words.{isIn, answer, mend}
@@ -164,11 +164,12 @@ unfolding encodeNumber
 encode-erased code n input output =
     Iff·trans
     (first-last (outside code n) (notLong input (dataBytes code n)) (notLong output (frameBytes n)) (not (eqb (spareOnes (dataBits code n) input) 0))
-    (isErased n (frameFor code n input)))
-    (λ t. (sized code n input (dataBytes code n) output (frameBytes n) [] .0 (t .0, (t .1, (t .2, tt))) .0, equal-test (spareOnes (dataBits code n) input) 0 .0 (t .3), t .4),
-    λ t.
-    let c = sized code n input (dataBytes code n) output (frameBytes n) [] .1 (t .0, tt) in
-    (c .0, c .1 .0, c .1 .1 .0, equal-test (spareOnes (dataBits code n) input) 0 .1 (t .1), t .2))
+    (isErased n (frameFor code n input))) (
+      λ t. (sized code n input (dataBytes code n) output (frameBytes n) [] .0 (t .0, (t .1, (t .2, tt))) .0, equal-test (spareOnes (dataBits code n) input) 0 .0 (t .3), t .4),
+      λ t.
+          let c = sized code n input (dataBytes code n) output (frameBytes n) [] .1 (t .0, tt) in
+          (c .0, c .1 .0, c .1 .1 .0, equal-test (spareOnes (dataBits code n) input) 0 .1 (t .1), t .2),
+    )
   where
     -- only the last of five checks applies
     first-last :

@@ -5,8 +5,8 @@ use mathlib.Core.Bool.{Bool, false}
 use mathlib.Core.List.{List, []}
 use Prim.Native.Nat.{ℕ, _+_, _*_, _≤_, _<_}
 use native.Mathlib.Omega.{arith}
-use lib.ListN.{length, getD, List·getD-eq-default}
-use lib.Seq.{ext-getD}
+use lib.ListN.{length, getD, take, List·getD-eq-default}
+use lib.Seq.{ext-getD, length-take-le, getD-take}
 use Rattle.algebra.specs.Tables.{tab}
 use Rattle.algebra.specs.Words.{Word, bit}
 use Rattle.algebra.proofs.TableLaws.{tab-length, tab-at}
@@ -35,6 +35,13 @@ bit-past w j h = List·getD-eq-default w false h
 pub bit-tab : (n : ℕ) (p : ℕ → Bool) (j : ℕ) → j < n → bit (tab n p) j ≡ p j
 unfolding bit
 bit-tab n p j h = tab-at n p j false h
+
+-- the first m bits of a word made by a rule
+pub take-tab : (m n : ℕ) (p : ℕ → Bool) → m ≤ n → take m (tab n p) ≡ tab m p
+unfolding bit
+take-tab m n p h =
+    word-ext m (take m (tab n p)) (tab m p) (length-take-le m (tab n p) (omega (arith, tab-length n p))) (tab-length m p)
+    (λ j hj. getD-take m (tab n p) j false hj ∙ bit-tab n p j (omega arith) ∙ sym (bit-tab m p j hj))
 
 pub row-tab : (n : ℕ) (r : ℕ → Word) (i : ℕ) → i < n → row (tab n r) i ≡ r i
 unfolding row

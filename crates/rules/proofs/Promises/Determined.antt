@@ -11,7 +11,7 @@ use native.Mathlib.Omega.{arith}
 use lib.Dec.{leb}
 use lib.ListN.{length, drop}
 use Rattle.algebra.specs.Words.{Word}
-use Rattle.rules.specs.Codes.{Code, dataBits}
+use Rattle.rules.specs.Codes.{Code}
 use Rattle.rules.specs.Frames.{Frame, Square, isFrame}
 use Rattle.rules.specs.Bits.{rowBytes, wordOf, frameOf, bytesOf}
 use Rattle.rules.specs.Passes.{Outcome, decoded}

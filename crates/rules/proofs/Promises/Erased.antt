@@ -1,33 +1,33 @@
 -- RULES 6, number 10: the data that it is given for, and that demand 3 needs its premise.
 -- Assumes nothing.
 use mathlib.Core.Path.{_≡_, refl, sym, ap, _∙_}
-use mathlib.Core.Logic.{_≢_, _↔_, _⊎_, inl, inr, Iff·trans}
-use mathlib.Core.Bool.{Bool, true, false, not, _&&_, _||_, true≢false, false≢true}
-use mathlib.Core.List.{List, [], _∷_}
-use Prim.Native.Nat.{ℕ, _+_, _-_, _≤_, _<_}
+use mathlib.Core.Logic.{_≢_, _↔_}
+use mathlib.Core.Bool.{Bool, true, not, _&&_}
+use mathlib.Core.List.{List}
+use Prim.Native.Nat.{ℕ, zero, suc, _-_, _≤_, _<_}
+use native.Mathlib.Decide.{decLt}
 use native.Mathlib.Omega.{arith}
 use lib.Dec.{eqb}
-use lib.ListN.{length, getD, replicate, drop}
-use borrow.Author.Tests.{eqb-true}
-use Rattle.algebra.specs.Tables.{tab, every}
-use Rattle.algebra.proofs.TableLaws.{every-each}
-use Rattle.rules.specs.Codes.{Code, radius, dataBits, smallCode}
-use Rattle.rules.specs.Words.{isCodeword}
-use Rattle.rules.specs.Frames.{Frame, Square, isFrame, isErased, corner}
+use lib.ListN.{length, getD, take}
+use borrow.Author.Tests.{eqb-false, not-true}
+use Rattle.algebra.specs.Remainder.{shift, register}
+use Rattle.algebra.proofs.TableLaws.{tab-zero, tab-suc}
+use Rattle.rules.specs.Codes.{Code, dataBits, g, smallCode}
+use Rattle.rules.specs.Words.{remainder, checks, isCodeword}
+use Rattle.rules.specs.Frames.{Frame, isErased, corner}
 use Rattle.rules.specs.Bits.{frameOf, bytesOf, spareOnes}
-use Rattle.rules.specs.Passes.{repaired, differences, good, decoded}
-use Rattle.rules.specs.Numbers.{dataBytes, frameBytes, frameFor, encodeNumber, encodeOutput, erased, number, decodeRefusal, decodeSaid}
-use Rattle.rules.specs.Damage.{spoilt}
+use Rattle.rules.specs.Numbers.{frameBytes, frameFor, encodeNumber}
 use Rattle.rules.proofs.Laws.CodeLaws.{Sound}
 use Rattle.rules.proofs.Laws.SmallCode.{sound-small}
-use Rattle.rules.proofs.Laws.Shape.{square-tab, corner-square, frameOf-square}
+use Rattle.rules.proofs.Laws.Shape.{take-tab, corner-square, frameOf-square}
+use Rattle.rules.proofs.Laws.CheckLaws.{codeword-checks}
 use Rattle.rules.proofs.Laws.FrameLaws.{frame-rows}
-use Rattle.rules.proofs.Laws.ErasedLaws.{allOnes, onesSquare, AllOnes, erased-ones, not-erased, ones-square, ones-cells, ones-only, ones-frame, row-ones, corner-ones}
+use Rattle.rules.proofs.Laws.ErasedLaws.{allOnes, onesSquare, AllOnes, erased-ones, ones-square, ones-cells, ones-only, ones-frame, row-ones, corner-ones}
 use Rattle.rules.proofs.Laws.PackLaws.{bytesOf-length, frame-of-bytes, bytes-of-frame, spares-of-bytes}
-use Rattle.rules.proofs.Laws.NumberLaws.{Sized, encode-accepts, encode-erased, at-zero}
+use Rattle.rules.proofs.Laws.NumberLaws.{encode-erased}
+use Rattle.rules.proofs.Laws.OneOfLaws.{and-both}
 use Rattle.rules.proofs.Laws.Computing.{computing}
 use Rattle.rules.proofs.Promises.Encoding.{Encoded, encoding}
-use Rattle.rules.proofs.Promises.Repair.{Written, Back, BackAt}
 
 -- ---- The statements
 
@@ -82,26 +82,55 @@ ones-promise code ok n input le = (from-ones code ok n input le, λ p. to-ones c
 
 -- ---- The one length
 
--- one test for all lengths
-tested : every 239 (λ i. not (isCodeword smallCode (18 + i) (allOnes (18 + i))) || eqb (18 + i) 256) ≡ true
-unfolding computing allOnes
+-- a remainder that is not zero, nor after one coefficient more that is one, and so on, m in all
+nonzero : ℕ → ℕ → Bool
+nonzero zero r = true
+nonzero (suc m) r = not (eqb r 0) && nonzero m (shift 16 g r true)
+
+nonzero-at : (m r i : ℕ) → nonzero m r ≡ true → i < m → register 16 g r (allOnes i) ≢ 0
+unfolding nonzero register allOnes
+nonzero-at zero r i h l = absurd (omega arith)
+nonzero-at (suc m) r zero h l =
+    let t = and-both (not (eqb r 0)) (nonzero m (shift 16 g r true)) h in
+    λ e. eqb-false r 0 (not-true (eqb r 0) (t .0)) (ap (register 16 g r) (sym (tab-zero (λ j. true))) ∙ e)
+nonzero-at (suc m) r (suc i) h l =
+    let t = and-both (not (eqb r 0)) (nonzero m (shift 16 g r true)) h in
+    λ e. nonzero-at m (shift 16 g r true) i (t .1) (omega arith) (ap (register 16 g r) (sym (tab-suc i (λ j. true))) ∙ e)
+
+-- one test, for up to 254 ones
+tested : nonzero 254 1 ≡ true
+unfolding computing nonzero
 tested = refl
+
+first-one : shift 16 g 0 true ≡ 1
+unfolding computing
+first-one = refl
 
 at-longest : isCodeword smallCode 256 (allOnes 256) ≡ true
 unfolding computing allOnes
 at-longest = refl
 
+-- fewer than 255 ones leave a remainder
+leaves : (m : ℕ) → m < 254 → register 16 g 0 (allOnes (suc m)) ≢ 0
+unfolding allOnes register
+leaves m h e =
+    nonzero-at 254 1 m tested h
+    (ap (λ (r : ℕ). register 16 g r (allOnes m)) (sym first-one) ∙ ap (register 16 g 0) (sym (tab-suc m (λ j. true))) ∙ e)
+
+no-remainder : (n : ℕ) → 2 ≤ n → isCodeword smallCode n (allOnes n) ≡ true → register 16 g 0 (allOnes (suc (n - 2))) ≡ 0
+unfolding checks remainder allOnes
+no-remainder n h c =
+    let z = codeword-checks smallCode n (allOnes n) c in
+    let e : n - 1 ≡ suc (n - 2) = omega arith in
+    let r : register 16 g 0 (take (n - 1) (allOnes n)) ≡ 0 = omega (arith, z) in
+    ap (λ (k : ℕ). register 16 g 0 (allOnes k)) (sym e) ∙ ap (register 16 g 0) (sym (take-tab (n - 1) n (λ j. true) (omega arith))) ∙ r
+
 one-length : (n : ℕ) → 18 ≤ n → n ≤ 256 → (isCodeword smallCode n (allOnes n) ≡ true) ↔ (n ≡ 256)
-one-length n lo hi = (
-  λ c. go (isCodeword smallCode n (allOnes n)) c
-      (let e : 18 + (n - 18) ≡ n = omega arith in
-      rw e at (every-each 239 (λ i. not (isCodeword smallCode (18 + i) (allOnes (18 + i))) || eqb (18 + i) 256) .0 tested (n - 18) (omega arith))),
-  λ e. rw e at-longest,
-)
+one-length n lo hi = (λ c. go c (decLt n 256), λ e. rw e at-longest)
   where
-    go : (b : Bool) → b ≡ true → (not b || eqb n 256) ≡ true → n ≡ 256
-    go true c h = eqb-true n 256 h
-    go false c h = absurd (false≢true c)
+    go : isCodeword smallCode n (allOnes n) ≡ true → Dec (n < 256) → n ≡ 256
+    go c (yes l) = absurd (leaves (n - 2) (omega arith) (no-remainder n (omega arith) c))
+    go c (no l) = omega (arith, l)
 
 -- ---- The one message
 

@@ -1,9 +1,10 @@
--- Demand 3 needs its premise: a written frame that can be spoiled, within the class, to all ones.
+-- Where number 10 ends: demand 3 needs its premise, since a written frame can be spoiled, within the class, to all ones; and what is
+-- nearly all ones can be repaired to it.
 -- Assumes nothing.
 use mathlib.Core.Path.{_≡_, refl, sym, ap, _∙_}
 use mathlib.Core.Bool.{Bool, true, false, not, _&&_, _||_, true≢false}
 use mathlib.Core.List.{List}
-use Prim.Native.Nat.{ℕ, _≤_, _<_}
+use Prim.Native.Nat.{ℕ, _≤_}
 use native.Mathlib.Omega.{arith}
 use lib.Dec.{eqb}
 use lib.ListN.{length}
@@ -13,21 +14,22 @@ use Rattle.rules.specs.Codes.{Code, radius, dataBits, smallCode}
 use Rattle.rules.specs.Words.{isCodeword}
 use Rattle.rules.specs.Frames.{Frame, Square, row, cell, isFrame, corner}
 use Rattle.rules.specs.Bits.{frameOf, bytesOf}
-use Rattle.rules.specs.Passes.{differences, decoded}
-use Rattle.rules.specs.Numbers.{frameBytes, frameFor, encodeNumber, erased, number, decodeSaid}
+use Rattle.rules.specs.Passes.{differences, Outcome, decoded}
+use Rattle.rules.specs.Numbers.{mostAllowed, frameBytes, frameFor, encodeNumber, erased, undecoded, told, handedOut, number, decodeRefusal, decodeSaid, decodeOutput}
 use Rattle.rules.specs.Damage.{spoilt}
 use Rattle.rules.proofs.Laws.CodeLaws.{Sound}
 use Rattle.rules.proofs.Laws.SmallCode.{sound-small}
 use Rattle.rules.proofs.Laws.Shape.{square-tab, corner-square, frameOf-square}
-use Rattle.rules.proofs.Laws.ErasedLaws.{onesSquare, AllOnes, ones-square, ones-cells, erased-ones, not-erased}
+use Rattle.rules.proofs.Laws.ErasedLaws.{onesSquare, AllOnes, ones-square, ones-cells, ones-frame, erased-ones, not-erased, not-ones}
 use Rattle.rules.proofs.Laws.PackLaws.{bytesOf-length, frame-of-bytes, spares-of-bytes}
-use Rattle.rules.proofs.Laws.NumberLaws.{encode-accepts, decode-erased}
+use Rattle.rules.proofs.Laws.NumberLaws.{encode-accepts, decode-accepts, decode-erased, handed, at-zero}
 use Rattle.rules.proofs.Laws.Computing.{computing}
 use Rattle.rules.proofs.Promises.Distance.{mends-small}
 use Rattle.rules.proofs.Promises.Encoding.{encoding}
-use Rattle.rules.proofs.Promises.RoundTrip.{is-written}
+use Rattle.rules.proofs.Promises.RoundTrip.{accepted, encoded, is-written}
+use Rattle.rules.proofs.Promises.Erased.{small-ones}
 use Rattle.rules.proofs.Promises.RepairFrames.{Restored, repairs-frames, counts-damage}
-use Rattle.rules.proofs.Promises.Repair.{Written, Back, BackAt}
+use Rattle.rules.proofs.Promises.Repair.{Written, Back, NotErased, BackAt, success-zero}
 
 -- a codeword of 80 bits: ones but for places 2 and 21
 abbrev hasOne : ℕ → Bool
@@ -63,6 +65,16 @@ pub record Premise : Type 0 where
   pub said : (output : List ℕ) → length output ≡ frameBytes 80 → decodeSaid smallCode 80 2 received output ≡ erased
   -- so that the demand fails where nothing is asked of what was received
   pub needed : ¬ BackAt smallCode (radius smallCode) (λ n received. Unit {0})
+
+-- at n = 256 the square of ones is a frame, though none that was written: a block that is erased but for bits within the class is
+-- repaired to it, with number 0
+pub record NearlyErased : Type 0 where
+  pub handed-out :
+      (allowance : ℕ) (received output : List ℕ) → 2 ≤ allowance → allowance ≤ mostAllowed → length received ≡ frameBytes 256
+      → length output ≡ frameBytes 256 → NotErased 256 received → spoilt 2 256 (onesSquare 256) (frameOf 256 received) ≤ 2
+      → (number (decodeSaid smallCode 256 allowance received output) ≡ 0)
+      × (decodeOutput smallCode 256 allowance received output ≡ bytesOf 256 (onesSquare 256))
+  pub not-written : ¬ Written smallCode 256 (bytesOf 256 (onesSquare 256))
 
 -- ---- Every frame but that of ones can be written
 
@@ -159,3 +171,43 @@ premise = record {
   said = said-here;
   needed = needed-here;
 }
+
+-- ---- At n = 256
+
+nearly :
+    (allowance : ℕ) (received output : List ℕ) → 2 ≤ allowance → allowance ≤ mostAllowed → length received ≡ frameBytes 256
+    → length output ≡ frameBytes 256 → NotErased 256 received → spoilt 2 256 (onesSquare 256) (frameOf 256 received) ≤ 2
+    → (number (decodeSaid smallCode 256 allowance received output) ≡ 0)
+    × (decodeOutput smallCode 256 allowance received output ≡ bytesOf 256 (onesSquare 256))
+unfolding decodeSaid decodeOutput
+nearly a received output lo hi taken lent seen d =
+    let r : ℕ = decodeRefusal smallCode 256 a received output in
+    let o : Outcome = decoded smallCode 256 a (frameOf 256 received) in
+    let z : r ≡ 0 =
+    decode-accepts smallCode 256 a received output .1
+    (record { from = omega arith; upTo = omega arith; taken = taken; lent = lent }, (omega arith, hi), not-erased 256 (frameOf 256 received) seen) in
+    let b : Restored (onesSquare 256) o =
+    repairs-frames smallCode mends-small 256 a (omega arith) (omega arith) lo (onesSquare 256) (frameOf 256 received) (ones-square 256)
+    (frameOf-square 256 received) (ones-frame smallCode 256 (small-ones .at-256 256 (omega arith) (omega arith) .1 refl)) d in
+    let e : number (told o) ≡ 0 = success-zero o (b .success) in (
+      ap number (at-zero r (told o) (undecoded r) z) ∙ e,
+      at-zero r (handedOut 256 received o) output z
+          ∙ handed 256 received o
+          ∙ at-zero (number (told o)) (bytesOf 256 (o .last)) received e
+          ∙ ap (bytesOf 256) (b .frame),
+    )
+
+unwritten : ¬ Written smallCode 256 (bytesOf 256 (onesSquare 256))
+unwritten w =
+    let made = encoded smallCode sound-small 256 (w .input) (w .blank) (w .accepts) in
+    let same : bytesOf 256 (frameFor smallCode 256 (w .input)) ≡ bytesOf 256 (onesSquare 256) =
+    sym (is-written smallCode sound-small 256 (w .input) (w .blank) (w .accepts)) ∙ w .writes in
+    let e : frameFor smallCode 256 (w .input) ≡ onesSquare 256 =
+    sym (frame-of-bytes 256 (frameFor smallCode 256 (w .input)) (made .square))
+    ∙ ap (frameOf 256) same
+    ∙ frame-of-bytes 256 (onesSquare 256) (ones-square 256) in
+    not-ones 256 (frameFor smallCode 256 (w .input)) (accepted smallCode sound-small 256 (w .input) (w .blank) (w .accepts) .2)
+    (rw e (ones-cells 256))
+
+pub nearly-erased : NearlyErased
+nearly-erased = record { handed-out = nearly; not-written = unwritten }

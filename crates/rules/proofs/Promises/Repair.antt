@@ -127,7 +127,7 @@ pub record RepairPromise (code : Code) : Type 0 where
 
 -- ---- The proof
 
-success-zero : (o : Outcome) → Success o → number (told o) ≡ 0
+pub success-zero : (o : Outcome) → Success o → number (told o) ≡ 0
 success-zero o (inl q) = ap (λ e. number (ended e (o .passes) (o .bits) (o .rows) (o .columns))) q
 success-zero o (inr q) = ap (λ e. number (ended e (o .passes) (o .bits) (o .rows) (o .columns))) q
 
