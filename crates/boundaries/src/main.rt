@@ -56,6 +56,11 @@ fn decode_calls() {
     decode_call(256, 2, 6, 8191, 8192);
     decode_call(257, 2, 6, 8192, 8192);
     decode_call(HUGE, 2, 6, 0, 0);
+    decode_call(18, 2, 54, 54, 54);
+    decode_call(18, 2, 53, 54, 54);
+    decode_call(18, 0, 54, 54, 54);
+    decode_call(18, 2, 54, 54, 53);
+    decode_call(256, 2, 8192, 8192, 8192);
 }
 
 fn row_calls() {
