@@ -8,12 +8,15 @@
  *  - Each function answers any bytes, lengths, n and allowance. What it can't take it refuses by number, and then no byte of
  *    the output changes.
  *  - A written frame, spoiled so that at most two of its rows have three or more wrong bits, comes back exactly, in at most two
- *    passes, at any allowance from 2 to 32. So do any eight wrong bits, any two rows lost whole, and any two columns. Whatever the
- *    allowance, number 0 then means the written frame, and the answer counts just the wrong bits.
+ *    passes, at any allowance from 2 to 32, unless all its code bits read as ones. So do any eight wrong bits, any two rows lost
+ *    whole, and any two columns. Whatever the allowance, number 0 then means the written frame, and the answer counts just the
+ *    wrong bits.
+ *  - A frame whose code bits are all ones is erased: none such is written, read or repaired, whatever n is.
  *
  * Where the promise ends: past that class a repair can be WRONG. Sixteen wrong bits, in four rows and four columns of a frame
  * of 31, are 'repaired' in two passes to a frame that was never written, with number 0. Nothing in the answer tells such a
  * frame from a good one: where a wrong frame does harm, keep the received one, and keep a checksum of the data in the data.
+ * And at n = 256 a block that is erased but for a few bits is repaired to all ones, with number 0; reading that gives 10.
  *
  * What a caller owes:
  *  - Each pointer is good for its length: to read for the input, to write for the output. Where the length is 0 it may be NULL;
@@ -51,7 +54,7 @@ enum {
     GAZENOHYRI_GREATEST_DATA_BYTES = 7170   /* and one of this size any data */
 };
 
-/* The number that a call answers: 0, or the first of the others that applies, checked in this order. */
+/* The number that a call answers: 0, or the first of the others that applies, checked in this order; but 10 comes ahead of 6. */
 enum {
     GAZENOHYRI_OK = 0,                /* clean, repaired, encoded or read: the output is the frame or the data */
     GAZENOHYRI_BAD_N = 1,             /* n is not 18..256 */
@@ -61,7 +64,8 @@ enum {
     GAZENOHYRI_SPARE_BIT_SET = 5,     /* the data have a spare bit set (encode) */
     GAZENOHYRI_NOT_CODEWORDS = 6,     /* not a frame of codewords, spare bits aside (read) */
     GAZENOHYRI_STUCK = 7,             /* pass 2 or a later one changed nothing, and not all words are codewords (decode) */
-    GAZENOHYRI_SPENT = 8              /* the allowance is used up, likewise (decode) */
+    GAZENOHYRI_SPENT = 8,             /* the allowance is used up, likewise (decode) */
+    GAZENOHYRI_ERASED = 10            /* all code bits are ones: of the frame given, or of the frame that the data would have */
 };
 
 /* The length in bytes of a frame, and of its data; 0 where n is not 18..256. */
@@ -75,7 +79,8 @@ static inline size_t gazenohyri_data_bytes(size_t n)
     return gazenohyri_frame_bytes(n) == 0 ? 0 : (n - GAZENOHYRI_CHECK_BITS) * ((n - GAZENOHYRI_CHECK_BITS + 7) / 8);
 }
 
-/* Writes to `frame` the one frame of codewords that has these data, spare bits zero. Answers 0, 1, 2, 3 or 5.
+/* Writes to `frame` the one frame of codewords that has these data, spare bits zero. Answers 0, 1, 2, 3, 5 or 10; 10 is
+ * for one message alone, n = 256 and all 239 by 239 bits of it ones.
  * data_len: gazenohyri_data_bytes(n). frame_len: gazenohyri_frame_bytes(n). */
 uint32_t gazenohyri_encode(size_t n, const uint8_t *GAZENOHYRI_RESTRICT data, size_t data_len,
                            uint8_t *GAZENOHYRI_RESTRICT frame, size_t frame_len);
@@ -84,12 +89,13 @@ uint32_t gazenohyri_encode(size_t n, const uint8_t *GAZENOHYRI_RESTRICT data, si
  * for all that is promised above. Received spare bits are not looked at. Take the answer apart with the five functions below.
  * Number 0: `frame` is a frame of codewords, spare bits zero. It was clean if it took 0 passes, and was repaired otherwise.
  * Numbers 7 and 8: `frame` is what was received, byte for byte, spare bits too: no half-mended frame is handed out.
+ * Number 10: erased, nothing is decoded and `frame` is untouched.
  * Numbers 1 to 4: refused, `frame` is untouched. received_len and frame_len: gazenohyri_frame_bytes(n). */
 uint64_t gazenohyri_decode(size_t n, size_t allowance, const uint8_t *GAZENOHYRI_RESTRICT received, size_t received_len,
                            uint8_t *GAZENOHYRI_RESTRICT frame, size_t frame_len);
 
 /* Writes to `data` the data of a frame, spare bits zero. It mends nothing: with one wrong bit in the frame the answer is 6 and
- * `data` is untouched. The frame's spare bits are not looked at. Answers 0, 1, 2, 3 or 6.
+ * `data` is untouched. The frame's spare bits are not looked at. Answers 0, 1, 2, 3, 6 or 10.
  * frame_len: gazenohyri_frame_bytes(n). data_len: gazenohyri_data_bytes(n). */
 uint32_t gazenohyri_read(size_t n, const uint8_t *GAZENOHYRI_RESTRICT frame, size_t frame_len,
                          uint8_t *GAZENOHYRI_RESTRICT data, size_t data_len);
@@ -100,7 +106,7 @@ static inline uint32_t gazenohyri_number(uint64_t answer)
     return (uint32_t)(answer & 0xFF);
 }
 
-/* The passes made; 0 where the number is 1 to 4. */
+/* The passes made; 0 where the number is 1 to 4, or 10. */
 static inline uint32_t gazenohyri_passes(uint64_t answer)
 {
     return (uint32_t)(answer >> 8 & 0xFF);
@@ -108,7 +114,7 @@ static inline uint32_t gazenohyri_passes(uint64_t answer)
 
 /* How many code bits are, after the last pass, not as they were received: a bit that was flipped and flipped back is not counted.
  * At number 0 the output differs from the input in so many code bits; within the promise above these are the wrong ones. For 7 and
- * 8 it counts in a frame that is not handed out. 0 where the frame was clean, and where the number is 1 to 4. */
+ * 8 it counts in a frame that is not handed out. 0 where the frame was clean, and where the number is 1 to 4, or 10. */
 static inline uint32_t gazenohyri_bits(uint64_t answer)
 {
     return (uint32_t)(answer >> 16 & 0xFFFF);

@@ -9,6 +9,7 @@ static void constants(void)
                                   GAZENOHYRI_STUCK, GAZENOHYRI_SPENT};
     for (int i = 0; i < 9; i++)
         EXPECT(numbers[i] == i);
+    EXPECT(GAZENOHYRI_ERASED == 10);
     EXPECT(GAZENOHYRI_SMALLEST_N == 18 && GAZENOHYRI_GREATEST_N == 256 && GAZENOHYRI_CHECK_BITS == 17);
     EXPECT(GAZENOHYRI_SMALLEST_ALLOWANCE == 1 && GAZENOHYRI_GREATEST_ALLOWANCE == 32);
 }

@@ -13,6 +13,10 @@ frame18 one '\x00\x00\x40'
 frame18 b '\xC0'
 frame18 c '\xFF\xFF\xC0\xFF\xFF\xC0'
 frame18 d '\xE0\x00\x00\xE0\x00\x00\xE0'
+ones() { zeros "$1" | tr '\0' '\377'; }
+ones 54 >"$files/ones"
+ones 8192 >"$files/ones256"
+{ ones 8191 && printf '\376'; } >"$files/nearly256"
 zeros 0 >"$files/empty"
 zeros 53 >"$files/short"
 zeros 55 >"$files/long"
@@ -54,6 +58,10 @@ repair 'item B' 0 'repaired in 1 pass, 2 bits mended' a b out 18 1
 repair 'item C' 0 'repaired in 2 passes, 36 bits mended' a c out 18
 repair 'item C, allowance 1' 1 "spent after 1 pass: 2 rows and 18 columns $unmended" - c out 18 1
 repair 'item D' 1 "stuck after 2 passes: 3 rows and 3 columns $unmended" - d out 18
+erased='erased: all bits are ones, nothing written'
+repair 'erased' 1 "$erased" - ones out 18
+repair 'erased, 256 rows' 1 "$erased" - ones256 out 256 32
+repair 'one bit is not one, 256 rows' 0 'repaired in 1 pass, 1 bit mended' ones256 nearly256 out 256
 cp "$files/before" "$files/out"
 repair 'an output that is there is replaced' 0 'repaired in 1 pass, 2 bits mended' a b out 18
 cp "$files/before" "$files/out"

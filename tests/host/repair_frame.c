@@ -3,7 +3,7 @@
  * Repairs the frame of N rows in the file IN and writes it to the file OUT: a small host program in C.
  * It says on standard output what happened, and exits with
  *   0  clean or repaired: OUT is written
- *   1  stuck or spent: nothing is written
+ *   1  stuck, spent or erased: nothing is written
  *   2  refused, or called in another way than above: nothing is written
  *   3  a file could not be read or written
  * OUT is there in full or not at all, and IN is never overwritten: where the damage is past what is promised, a repair can be
@@ -137,6 +137,10 @@ static int report(uint64_t answer)
         print_count(": ", gazenohyri_bad_rows(answer), "row", "rows");
         print_count(" and ", gazenohyri_bad_columns(answer), "column", "columns");
         printf(" left that are not codewords, nothing written\n");
+        return NOT_REPAIRED;
+    }
+    if (number == GAZENOHYRI_ERASED) {
+        printf("erased: all bits are ones, nothing written\n");
         return NOT_REPAIRED;
     }
     printf("refused, number %u: %s, nothing written\n", (unsigned)number, reason(number));
