@@ -354,59 +354,35 @@ not-named i p q h =
     split false true h = absurd (true≢false h)
     split false false h = (refl, refl)
 
--- 1 or 2 is not x
-other : (x : ℕ) → (i : ℕ) × (1 ≤ i) × (i < 3) × (i ≢ x)
-other x = go (ℕ-discrete 1 x)
-  where
-    go : Dec (1 ≡ x) → (i : ℕ) × (1 ≤ i) × (i < 3) × (i ≢ x)
-    go (yes a) = (2, omega arith, omega arith, λ e. omega arith)
-    go (no a) = (1, omega arith, omega arith, a)
+module _ (n : ℕ) (message blank written : List ℕ) (e : Encodes n message blank 0 written) (received : List ℕ) (h : length received ≡ frameBytes n) where
+  abbrev w : Written smallCode n written
+  w = writes n message blank written e
 
--- one of three rows, or of three columns, is neither of two
-third : (p q : ℕ) → (i : ℕ) × (i < 3) × (i ≢ p) × (i ≢ q)
-third p q = go (ℕ-discrete 0 p) (ℕ-discrete 0 q)
-  where
-    go : Dec (0 ≡ p) → Dec (0 ≡ q) → (i : ℕ) × (i < 3) × (i ≢ p) × (i ≢ q)
-    go (no a) (no b) = (0, omega arith, a, b)
-    go (no a) (yes b) = let k = other p in (k .0, k .2, k .3, λ e. omega (arith, k .1))
-    go (yes a) b = let k = other q in (k .0, k .2, λ e. omega (arith, k .1), k .3)
-
-module _ (n : ℕ) (message blank written : List ℕ) (e : Encodes n message blank 0 written) (received : List ℕ) where
   long : 18 ≤ n
   long = promised-small .round-trips .accepts n message blank .0 (sym (e .0)) .0 .from
 
-  eight-back : length received ≡ frameBytes n → wrongBits n written received ≤ 8 → ComesBack n written received
-  eight-back h few =
+  eight-back : wrongBits n written received ≤ 8 → ComesBack n written received
+  eight-back few =
       let s = promised-small .repairs .few-bits n written received h (omega (arith, few)) in
-      let z = promised-small .repairs .some-row n written received (omega (arith, few, long)) in
-      back-here n message blank written e received s
-      (promised-small .repairs .row-unharmed n written received (writes n message blank written e) s (z .0) (z .1) (z .2))
+      back-here n message blank written e received s (promised-small .repairs .few-seen n written received w s (omega (arith, few, long)))
 
   rows-back :
-      (p q : ℕ) → length received ≡ frameBytes n
-      → ((i j : ℕ) → i < n → j < n → i ≢ p → i ≢ q → bitAt written (i * stride n + j) ≡ bitAt received (i * stride n + j))
+      (p q : ℕ) → ((i j : ℕ) → i < n → j < n → i ≢ p → i ≢ q → bitAt written (i * stride n + j) ≡ bitAt received (i * stride n + j))
       → ComesBack n written received
-  rows-back p q h kept =
-      let s =
-      promised-small .repairs .rows-lost n written received (p ∷ q ∷ []) (omega arith) h
-      (λ i j hi hj out. let k = not-named i p q out in kept i j hi hj (k .0) (k .1)) in
-      let t = third p q in
-      let l : t .0 < n = omega (arith, t .1, long) in
-      back-here n message blank written e received s
-      (promised-small .repairs .row-unharmed n written received (writes n message blank written e) s (t .0) l (λ j m. kept (t .0) j l m (t .2) (t .3)))
+  rows-back p q kept =
+      let same : (i j : ℕ) → i < n → j < n → isIn i (p ∷ q ∷ []) ≡ false → bitAt written (i * stride n + j) ≡ bitAt received (i * stride n + j) =
+      λ i j hi hj out. let k = not-named i p q out in kept i j hi hj (k .0) (k .1) in
+      let s = promised-small .repairs .rows-lost n written received (p ∷ q ∷ []) (omega arith) h same in
+      back-here n message blank written e received s (promised-small .repairs .rows-seen n written received w s (p ∷ q ∷ []) (omega (arith, long)) same)
 
   columns-back :
-      (p q : ℕ) → length received ≡ frameBytes n
-      → ((i j : ℕ) → i < n → j < n → j ≢ p → j ≢ q → bitAt written (i * stride n + j) ≡ bitAt received (i * stride n + j))
+      (p q : ℕ) → ((i j : ℕ) → i < n → j < n → j ≢ p → j ≢ q → bitAt written (i * stride n + j) ≡ bitAt received (i * stride n + j))
       → ComesBack n written received
-  columns-back p q h kept =
-      let s =
-      promised-small .repairs .columns-lost n written received (p ∷ q ∷ []) (omega arith) h
-      (λ i j hi hj out. let k = not-named j p q out in kept i j hi hj (k .0) (k .1)) in
-      let t = third p q in
-      let l : t .0 < n = omega (arith, t .1, long) in
-      back-here n message blank written e received s
-      (promised-small .repairs .column-unharmed n written received (writes n message blank written e) s (t .0) l (λ i m. kept i (t .0) m l (t .2) (t .3)))
+  columns-back p q kept =
+      let same : (i j : ℕ) → i < n → j < n → isIn j (p ∷ q ∷ []) ≡ false → bitAt written (i * stride n + j) ≡ bitAt received (i * stride n + j) =
+      λ i j hi hj out. let k = not-named j p q out in kept i j hi hj (k .0) (k .1) in
+      let s = promised-small .repairs .columns-lost n written received (p ∷ q ∷ []) (omega arith) h same in
+      back-here n message blank written e received s (promised-small .repairs .columns-seen n written received w s (p ∷ q ∷ []) (omega (arith, long)) same)
 
 pub demand₃ : Demand₃
 demand₃ = record {
@@ -418,8 +394,8 @@ demand₃ = record {
       (small-ones .at-256 256 (omega arith) (omega arith) .1 refl);
   counts = counts-here;
   eight-bits = eight-back;
-  rows-lost = rows-back;
-  columns-lost = columns-back;
+  rows-lost = λ n message blank written e received p q h. rows-back n message blank written e received h p q;
+  columns-lost = λ n message blank written e received p q h. columns-back n message blank written e received h p q;
   apart = λ n message blank written message′ blank′ written′ e e′ d received received′ s s′.
       promised-small .repairs .apart n written written′ received received′ (writes n message blank written e)
       (writes n message′ blank′ written′ e′) d s s′;

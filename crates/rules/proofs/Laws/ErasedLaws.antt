@@ -12,7 +12,7 @@ use Rattle.rules.specs.Codes.{Code}
 use Rattle.rules.specs.Words.{isCodeword}
 use Rattle.rules.specs.Frames.{Frame, Square, row, cell, transposed, isFrame, isErased, corner}
 use Rattle.rules.proofs.Laws.Shape.{word-ext, square-ext, square-tab, bit-tab, row-tab, cell-tab, transposed-square, transposed-cell, corner-cell}
-use Rattle.rules.proofs.Laws.FrameLaws.{Rows, rows-columns-frame}
+use Rattle.rules.proofs.Laws.FrameLaws.{Rows, frame-rows, frame-columns, rows-columns-frame}
 
 -- a word of n ones, and a square of them
 unfoldable pub allOnes : ℕ → Word
@@ -76,6 +76,21 @@ pub row-ones : (n : ℕ) (f : Frame) (i : ℕ) → i < n → Square n f → ((j 
 unfolding allOnes
 row-ones n f i l s h =
     word-ext n (row f i) (tab n (λ j. true)) (s .1 i l) (tab-length n (λ j. true)) (λ j m. h j m ∙ sym (bit-tab n (λ j. true) j m))
+
+-- a row, or a column, that a frame has in common with it makes the word of ones a codeword
+pub ones-of-row :
+    (code : Code) (n : ℕ) (f r : Frame) → isFrame code n f ≡ true → Square n r → AllOnes n r → (i : ℕ) → i < n → row f i ≡ row r i
+    → isCodeword code n (allOnes n) ≡ true
+ones-of-row code n f r k s all i l e =
+    ap (isCodeword code n) (sym (e ∙ row-ones n r i l s (λ j m. all i j l m))) ∙ frame-rows code n f k i l
+
+pub ones-of-column :
+    (code : Code) (n : ℕ) (f r : Frame) → isFrame code n f ≡ true → AllOnes n r → (j : ℕ) → j < n
+    → row (transposed n f) j ≡ row (transposed n r) j → isCodeword code n (allOnes n) ≡ true
+ones-of-column code n f r k all j l e =
+    ap (isCodeword code n)
+    (sym (e ∙ row-ones n (transposed n r) j l (transposed-square n r) (λ i m. transposed-cell n r j i l m ∙ all i j m l)))
+    ∙ frame-columns code n f k j l
 
 -- its corner is one too
 pub corner-ones : (k n : ℕ) (f : Frame) → k ≤ n → AllOnes n f → AllOnes k (corner k f)

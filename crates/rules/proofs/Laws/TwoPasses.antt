@@ -14,7 +14,7 @@ use lib.ListN.{length}
 use Rattle.algebra.specs.Tables.{tab, num, ones, count, total}
 use Rattle.algebra.specs.Words.{Word, bit, _⊻_, differ}
 use Rattle.algebra.proofs.Digits.{num-le}
-use Rattle.algebra.proofs.TableLaws.{tab-zero, tab-suc, tab-at, tab-is, count-mono, count-ext, count-total, zero-count, total-mono, total-add}
+use Rattle.algebra.proofs.TableLaws.{tab-zero, tab-suc, tab-at, tab-is, count-mono, count-ext, count-total, zero-count, total-mono, total-add, num-zero, total-few}
 use Rattle.algebra.proofs.WordLaws.{xor-self, differ-self}
 use Rattle.rules.specs.Words.{isIn}
 use Rattle.rules.specs.Frames.{Frame, row, cell, transposed}
@@ -147,6 +147,12 @@ count-named n (x ∷ xs) =
     total-add n (λ i. num (eqb i x || isIn i xs)) (λ i. num (eqb i x)) (λ i. num (isIn i xs)) (λ i h. or-num (eqb i x) (isIn i xs)) in
     omega
     (arith, count-total n (λ i. eqb i x || isIn i xs), count-total n (λ i. eqb i x), count-total n (λ i. isIn i xs), count-one n x, count-named n xs)
+
+-- a list that is shorter than n does not name all below n
+pub some-unnamed : (n : ℕ) (xs : List ℕ) → length xs < n → (i : ℕ) × (i < n) × (isIn i xs ≡ false)
+some-unnamed n xs h =
+    let z = total-few n (λ i. num (isIn i xs)) (omega (arith, count-total n (λ i. isIn i xs), count-named n xs)) in
+    (z .0, z .1, num-zero (z .2))
 
 -- rows lost whole, at most t of them, spoil at most t rows
 pub rows-lost :

@@ -36,13 +36,13 @@ use Rattle.rules.specs.Numbers.{
 use Rattle.rules.specs.Damage.{spoilt, wrongBits}
 use Rattle.rules.proofs.Laws.CodeLaws.{Sound, Mends}
 use Rattle.rules.proofs.Laws.Shape.{word-ext, transposed-row, frameOf-square, frameOf-row, frameOf-cell, wordOf-length, wordOf-bit}
-use Rattle.rules.proofs.Laws.ErasedLaws.{allOnes, AllOnes, not-erased, not-ones}
+use Rattle.rules.proofs.Laws.ErasedLaws.{allOnes, AllOnes, not-erased, not-ones, ones-of-row, ones-of-column}
 use Rattle.rules.proofs.Laws.PackLaws.{spare-free}
 use Rattle.rules.proofs.Laws.NumberLaws.{Sized, decode-accepts, decode-refused, undecoded-number, handed, told-success, told-both, at-zero}
 use Rattle.rules.proofs.Promises.Encoding.{Encoded}
 use Rattle.rules.proofs.Promises.RoundTrip.{accepted, encoded, is-written, is-frame}
-use Rattle.rules.proofs.Laws.TwoPasses.{few-wrong, rows-lost as rows-gone, columns-lost as columns-gone}
-use Rattle.rules.proofs.Promises.RepairFrames.{Success, Restored, repairs-frames, counts-damage, ones-codeword, row-unharmed, column-unharmed, spoiled-apart}
+use Rattle.rules.proofs.Laws.TwoPasses.{few-wrong, some-unnamed, rows-lost as rows-gone, columns-lost as columns-gone}
+use Rattle.rules.proofs.Promises.RepairFrames.{Success, Restored, repairs-frames, counts-damage, spoiled-ones, spoiled-apart}
 
 -- ---- The statement
 
@@ -92,10 +92,25 @@ pub record RepairPromise (code : Code) : Type 0 where
   pub column-unharmed :
       (n : ℕ) (written received : List ℕ) → Written code n written → Spoiled code n written received
       → (j : ℕ) → j < n → ((i : ℕ) → i < n → bitAt written (i * stride n + j) ≡ bitAt received (i * stride n + j)) → NotErased n received
-  -- and at an n at which the word of ones is a codeword
+  -- at an n at which the word of ones is a codeword,
   pub ones-codeword :
       (n : ℕ) (written received : List ℕ) → Written code n written → Spoiled code n written received
       → isCodeword code n (allOnes n) ≡ true → NotErased n received
+  -- with fewer wrong bits than rows,
+  pub few-seen :
+      (n : ℕ) (written received : List ℕ) → Written code n written → Spoiled code n written received
+      → wrongBits n written received < n → NotErased n received
+  -- and where not all rows, or not all columns, are lost
+  pub rows-seen :
+      (n : ℕ) (written received : List ℕ) → Written code n written → Spoiled code n written received
+      → (lost : List ℕ) → length lost < n
+      → ((i j : ℕ) → i < n → j < n → isIn i lost ≡ false → bitAt written (i * stride n + j) ≡ bitAt received (i * stride n + j))
+      → NotErased n received
+  pub columns-seen :
+      (n : ℕ) (written received : List ℕ) → Written code n written → Spoiled code n written received
+      → (lost : List ℕ) → length lost < n
+      → ((i j : ℕ) → i < n → j < n → isIn j lost ≡ false → bitAt written (i * stride n + j) ≡ bitAt received (i * stride n + j))
+      → NotErased n received
   -- whatever the allowance, number 0 means the written bytes, and the count is the number of wrong bits
   pub counts :
       (n allowance : ℕ) (written received output : List ℕ) → Written code n written → Spoiled code n written received
@@ -110,10 +125,6 @@ pub record RepairPromise (code : Code) : Type 0 where
   pub few-bits :
       (n : ℕ) (written received : List ℕ) → length received ≡ frameBytes n
       → wrongBits n written received < suc (radius code) * suc (radius code) → Spoiled code n written received
-  -- fewer wrong bits than rows: some row has none
-  pub some-row :
-      (n : ℕ) (written received : List ℕ) → wrongBits n written received < n
-      → (i : ℕ) × (i < n) × ((j : ℕ) → j < n → bitAt written (i * stride n + j) ≡ bitAt received (i * stride n + j))
   -- rows lost whole, as many as the radius
   pub rows-lost :
       (n : ℕ) (written received : List ℕ) (lost : List ℕ) → length lost ≤ radius code → length received ≡ frameBytes n
@@ -191,31 +202,26 @@ module _
   abbrev ok : Sound code
   ok = able .sound
 
-  never : AllOnes n (the-frame code ok n written w) → ⊥
-  never = some-zero code ok n written w
+  written-whole : isFrame code n (frameOf n written) ≡ true
+  written-whole = ap (isFrame code n) (is-the-frame code ok n written w) ∙ whole code ok n written w
 
   at-codeword : isCodeword code n (allOnes n) ≡ true → ⊥
   at-codeword c =
       let k = sized code ok n written w in
-      never
-      (ones-codeword code able n (k .from) (k .upTo) (the-frame code ok n written w) (frameOf n received) (square code ok n written w)
-      (frameOf-square n received) (whole code ok n written w) (in-class code ok n written w received s) all c)
+      some-zero code ok n written w
+      (spoiled-ones code able n (k .from) (k .upTo) (the-frame code ok n written w) (frameOf n received) (square code ok n written w)
+      (frameOf-square n received) (whole code ok n written w) (in-class code ok n written w received s) c all)
 
   at-row : (i : ℕ) → i < n → ((j : ℕ) → j < n → bitAt written (i * stride n + j) ≡ bitAt received (i * stride n + j)) → ⊥
   at-row i l same =
-      let k = sized code ok n written w in
-      never
-      (row-unharmed code able n (k .from) (k .upTo) (the-frame code ok n written w) (frameOf n received) (square code ok n written w)
-      (frameOf-square n received) (whole code ok n written w) (in-class code ok n written w received s) all i l
-      (ap (λ (f : Frame). row f i) (sym (is-the-frame code ok n written w)) ∙ same-row n written received i l same))
+      at-codeword
+      (ones-of-row code n (frameOf n written) (frameOf n received) written-whole (frameOf-square n received) all i l
+      (same-row n written received i l same))
 
   at-column : (j : ℕ) → j < n → ((i : ℕ) → i < n → bitAt written (i * stride n + j) ≡ bitAt received (i * stride n + j)) → ⊥
   at-column j l same =
-      let k = sized code ok n written w in
-      never
-      (column-unharmed code able n (k .from) (k .upTo) (the-frame code ok n written w) (frameOf n received) (square code ok n written w)
-      (frameOf-square n received) (whole code ok n written w) (in-class code ok n written w received s) all j l
-      (ap (λ (f : Frame). row (transposed n f) j) (sym (is-the-frame code ok n written w)) ∙ same-column n written received j l same))
+      at-codeword
+      (ones-of-column code n (frameOf n written) (frameOf n received) written-whole all j l (same-column n written received j l same))
 
 -- a success with the written frame, and the count
 module _ (code : Code) (able : Mends code) (n a : ℕ) (written received output : List ℕ) (w : Written code n written) (s : Spoiled code n written received) where
@@ -298,11 +304,12 @@ apart-here code able n written written′ received received′ w w′ different 
     (in-class code (able .sound) n written w received s) (rw e (in-class code (able .sound) n written′ w′ received′ s′)))
     ∙ sym (is-bytes code (able .sound) n written′ w′))
 
-some-row-here :
+-- fewer wrong bits than rows: some row has none
+some-row :
     (n : ℕ) (written received : List ℕ) → wrongBits n written received < n
     → (i : ℕ) × (i < n) × ((j : ℕ) → j < n → bitAt written (i * stride n + j) ≡ bitAt received (i * stride n + j))
 unfolding differences
-some-row-here n written received few =
+some-row n written received few =
     let z = total-few n (λ i. differ (row (frameOf n written) i) (row (frameOf n received) i)) few in (
       z .0,
       z .1,
@@ -321,10 +328,17 @@ repairs code able =
       row-unharmed = λ n written received w s i l same all. at-row code able n written received w s all i l same;
       column-unharmed = λ n written received w s j l same all. at-column code able n written received w s all j l same;
       ones-codeword = λ n written received w s c all. at-codeword code able n written received w s all c;
+      few-seen = λ n written received w s few all.
+          let z = some-row n written received few in at-row code able n written received w s all (z .0) (z .1) (z .2);
+      rows-seen = λ n written received w s lost few same all.
+          let z = some-unnamed n lost few in
+          at-row code able n written received w s all (z .0) (z .1) (λ j m. same (z .0) j (z .1) m (z .2));
+      columns-seen = λ n written received w s lost few same all.
+          let z = some-unnamed n lost few in
+          at-column code able n written received w s all (z .0) (z .1) (λ i m. same i (z .0) m (z .1) (z .2));
       counts = counts-said code able;
       apart = apart-here code able;
       few-bits = λ n written received long d. (long, few-wrong (radius code) n (frameOf n written) (frameOf n received) d);
-      some-row = some-row-here;
       rows-lost = λ n written received lost few long same. (
         long,
         rows-gone (radius code) n (frameOf n written) (frameOf n received) lost few

@@ -3,19 +3,19 @@
 use mathlib.Core.Path.{_≡_, refl, sym, ap, subst, _∙_}
 use mathlib.Core.Logic.{_⊎_, inl, inr}
 use mathlib.Core.Bool.{Bool, true, false}
-use Prim.Native.Nat.{ℕ, zero, suc, _≤_, _<_}
+use Prim.Native.Nat.{ℕ, zero, suc, _≤_}
 use native.Mathlib.Omega.{arith}
 use lib.ListN.{length}
 use Rattle.algebra.specs.Words.{Word, differ}
 use Rattle.rules.specs.Codes.{Code, radius}
 use Rattle.rules.specs.Words.{isCodeword, mend}
-use Rattle.rules.specs.Frames.{Frame, Square, row, transposed, isFrame}
+use Rattle.rules.specs.Frames.{Frame, Square, transposed, isFrame}
 use Rattle.rules.specs.Passes.{passRows, passColumns, pass, differences, clean, repaired, spent, Outcome, passesFrom, decoded}
 use Rattle.rules.specs.Damage.{spoilt}
 use Rattle.rules.proofs.Laws.CodeLaws.{Mends}
-use Rattle.rules.proofs.Laws.Shape.{transposed-square, transposed-cell, transposed-twice}
+use Rattle.rules.proofs.Laws.Shape.{transposed-square, transposed-twice}
 use Rattle.rules.proofs.Laws.FrameLaws.{frame-rows, frame-columns}
-use Rattle.rules.proofs.Laws.ErasedLaws.{allOnes, onesSquare, AllOnes, ones-only, ones-frame, row-ones}
+use Rattle.rules.proofs.Laws.ErasedLaws.{allOnes, AllOnes, ones-only, ones-frame}
 use Rattle.rules.proofs.Promises.Answers.{answers}
 use Rattle.rules.proofs.Promises.Passes.{passes-promise}
 use Rattle.rules.proofs.Laws.PassLaws.{decoded-clean, decoded-passes, step-repaired, step-on, step-spent, pass-one, pass-two, passRows-square}
@@ -150,25 +150,13 @@ counts-damage code able n a h b lo f r sf sr k d s =
     let rule = passes-promise code .holds n a r lo in
     (e, rule .bits-are ∙ ap (differences n r) (sym (rule .last-is) ∙ e) ∙ differences-comm n r f)
 
--- a spoiled frame is not all ones where such a word is a codeword, nor where a row or a column has no wrong bit, unless the written is
-module _
-    (code : Code) (able : Mends code) (n : ℕ) (h : code .shortest ≤ n) (b : n ≤ code .longest) (f r : Frame) (sf : Square n f) (sr : Square n r)
-    (k : isFrame code n f ≡ true) (d : spoilt (radius code) n f r ≤ radius code) (all : AllOnes n r) where
-  pub ones-codeword : isCodeword code n (allOnes n) ≡ true → AllOnes n f
-  ones-codeword c =
-      let e : r ≡ onesSquare n = ones-only n r sr all in
-      subst (AllOnes n) (received-whole code able n h b f r sf sr k d (ap (isFrame code n) e ∙ ones-frame code n c)) all
-
-  pub row-unharmed : (i : ℕ) → i < n → row f i ≡ row r i → AllOnes n f
-  row-unharmed i l e =
-      ones-codeword (ap (isCodeword code n) (sym (e ∙ row-ones n r i l sr (λ j m. all i j l m))) ∙ frame-rows code n f k i l)
-
-  pub column-unharmed : (j : ℕ) → j < n → row (transposed n f) j ≡ row (transposed n r) j → AllOnes n f
-  column-unharmed j l e =
-      ones-codeword
-      (ap (isCodeword code n)
-      (sym (e ∙ row-ones n (transposed n r) j l (transposed-square n r) (λ i m. transposed-cell n r j i l m ∙ all i j m l)))
-      ∙ frame-columns code n f k j l)
+-- spoiled to all ones, where such a word is a codeword, it was all ones
+pub spoiled-ones :
+    (code : Code) (able : Mends code) (n : ℕ) → code .shortest ≤ n → n ≤ code .longest → (f r : Frame) → Square n f → Square n r → isFrame code n f ≡ true
+    → spoilt (radius code) n f r ≤ radius code → isCodeword code n (allOnes n) ≡ true → AllOnes n r → AllOnes n f
+spoiled-ones code able n h b f r sf sr k d c all =
+    let e : isFrame code n r ≡ true = ap (isFrame code n) (ones-only n r sr all) ∙ ones-frame code n c in
+    subst (AllOnes n) (received-whole code able n h b f r sf sr k d e) all
 
 -- two written frames that, each spoiled, become the same are one
 pub spoiled-apart :
