@@ -11,7 +11,7 @@
  *    passes, at any allowance from 2 to 32, unless all its code bits read as ones. So do any eight wrong bits, any two rows lost
  *    whole, and any two columns. Whatever the allowance, number 0 then means the written frame, and the answer counts just the
  *    wrong bits.
- *  - A frame whose code bits are all ones is erased: none such is written, read or repaired, whatever n is.
+ *  - A frame whose code bits are all ones is erased: encode makes none, and read and decode take none, whatever n is.
  *
  * Where the promise ends: past that class a repair can be WRONG. Sixteen wrong bits, in four rows and four columns of a frame
  * of 31, are 'repaired' in two passes to a frame that was never written, with number 0. Nothing in the answer tells such a

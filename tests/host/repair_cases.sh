@@ -15,6 +15,7 @@ frame18 c '\xFF\xFF\xC0\xFF\xFF\xC0'
 frame18 d '\xE0\x00\x00\xE0\x00\x00\xE0'
 ones() { zeros "$1" | tr '\0' '\377'; }
 ones 54 >"$files/ones"
+for _ in {1..18}; do printf '\377\377\300'; done >"$files/ones0" # spare bits zero
 ones 8192 >"$files/ones256"
 { ones 8191 && printf '\376'; } >"$files/nearly256"
 zeros 0 >"$files/empty"
@@ -60,6 +61,7 @@ repair 'item C, allowance 1' 1 "spent after 1 pass: 2 rows and 18 columns $unmen
 repair 'item D' 1 "stuck after 2 passes: 3 rows and 3 columns $unmended" - d out 18
 erased='erased: all bits are ones, nothing written'
 repair 'erased' 1 "$erased" - ones out 18
+repair 'erased, spare bits zero' 1 "$erased" - ones0 out 18
 repair 'erased, 256 rows' 1 "$erased" - ones256 out 256 32
 repair 'one bit is not one, 256 rows' 0 'repaired in 1 pass, 1 bit mended' ones256 nearly256 out 256
 cp "$files/before" "$files/out"

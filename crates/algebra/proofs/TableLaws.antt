@@ -11,7 +11,7 @@ use native.Mathlib.Numerals.{add-one}
 use native.Mathlib.Omega.{arith}
 use lib.ListN.{length, getD, List·getD-eq-default}
 use lib.Seq.{ext-getD}
-use Rattle.algebra.specs.Tables.{tabFrom, tab, num, ones, sum, count, every, total}
+use Rattle.algebra.specs.Tables.{tabFrom, tab, num, ones, sum, count, allBelow, total}
 
 tabFrom-suc {ℓ} : {A : Type ℓ} (a n : ℕ) (f : ℕ → A) → tabFrom (suc a) n f ≡ tabFrom a n (λ i. f (suc i))
 unfolding tabFrom
@@ -164,7 +164,6 @@ total-some (suc n) f h = go (ℕ-discrete (f 0) 0) (total-some n (λ i. f (suc i
     go (yes z) later = let t = later (λ e. h (total-suc n f ∙ ap₂ _+_ z e)) in (suc (t .0), omega (arith, t .1), t .2)
     go (no z) later = (0, omega arith, z)
 
--- and a count that is not zero has counted something
 -- a total below n has a term that is zero
 pub total-few : (n : ℕ) (f : ℕ → ℕ) → total n f < n → (i : ℕ) × (i < n) × (f i ≡ 0)
 total-few zero f h = absurd (omega arith)
@@ -174,6 +173,7 @@ total-few (suc n) f h = go (total-few n f) (ℕ-discrete (f n) 0)
     go before (yes z) = (n, omega arith, z)
     go before (no z) = let k = before (omega (arith, total-last n f, z, h)) in (k .0, omega (arith, k .1), k .2)
 
+-- and a count that is not zero has counted something
 pub count-some : (n : ℕ) (p : ℕ → Bool) → count n p ≢ 0 → (i : ℕ) × (i < n) × (p i ≡ true)
 count-some n p h =
     let t = total-some n (λ i. num (p i)) (λ e. h (count-total n p ∙ e)) in (t .0, t .1, go (p (t .0)) (t .2))
@@ -209,35 +209,35 @@ total-swap (suc n) m c =
     ∙ sym (total-plus m (λ j. total n (λ i. c i j)) (λ j. c n j))
     ∙ total-ext m (λ j. total n (λ i. c i j) + c n j) (λ j. total (suc n) (λ i. c i j)) (λ j h. sym (total-last n (λ i. c i j)))
 
-pub every-each : (n : ℕ) (p : ℕ → Bool) → (every n p ≡ true) ↔ ((i : ℕ) → i < n → p i ≡ true)
-unfolding every
-every-each zero p = (λ h i l. absurd (omega arith), λ h. refl)
-every-each (suc n) p = (
-  λ h i l. let t = and-eq-true-iff (p n) (every n p) .0 h in go i (t .0) (every-each n p .0 (t .1)) (decLt i n) l,
-  λ h. and-eq-true-iff (p n) (every n p) .1 (h n (omega arith), every-each n p .1 (λ i l. h i (omega arith))),
+pub below-each : (n : ℕ) (p : ℕ → Bool) → (allBelow n p ≡ true) ↔ ((i : ℕ) → i < n → p i ≡ true)
+unfolding allBelow
+below-each zero p = (λ h i l. absurd (omega arith), λ h. refl)
+below-each (suc n) p = (
+  λ h i l. let t = and-eq-true-iff (p n) (allBelow n p) .0 h in go i (t .0) (below-each n p .0 (t .1)) (decLt i n) l,
+  λ h. and-eq-true-iff (p n) (allBelow n p) .1 (h n (omega arith), below-each n p .1 (λ i l. h i (omega arith))),
 )
   where
     go : (i : ℕ) → p n ≡ true → ((i : ℕ) → i < n → p i ≡ true) → Dec (i < n) → i < suc n → p i ≡ true
     go i last before (yes l) m = before i l
     go i last before (no l) m = let e : i ≡ n = omega (arith, l) in ap p e ∙ last
 
-pub every-none : (p : ℕ → Bool) → true ≡ every 0 p
-unfolding every
-every-none p = refl
+pub below-none : (p : ℕ → Bool) → true ≡ allBelow 0 p
+unfolding allBelow
+below-none p = refl
 
-pub every-next : (n : ℕ) (p : ℕ → Bool) → true ≡ every n p → p n ≡ true → true ≡ every (n + 1) p
-unfolding every
-every-next n p h e = rw (add-one n) (sym (and-eq-true-iff (p n) (every n p) .1 (e, sym h)))
+pub below-next : (n : ℕ) (p : ℕ → Bool) → true ≡ allBelow n p → p n ≡ true → true ≡ allBelow (n + 1) p
+unfolding allBelow
+below-next n p h e = rw (add-one n) (sym (and-eq-true-iff (p n) (allBelow n p) .1 (e, sym h)))
 
 -- one fails
-pub every-fails : (n : ℕ) (p : ℕ → Bool) (i : ℕ) → i < n → p i ≡ false → false ≡ every n p
-every-fails n p i l e = go (every n p) refl
+pub below-fails : (n : ℕ) (p : ℕ → Bool) (i : ℕ) → i < n → p i ≡ false → false ≡ allBelow n p
+below-fails n p i l e = go (allBelow n p) refl
   where
-    go : (b : Bool) → every n p ≡ b → false ≡ b
-    go true h = sym e ∙ every-each n p .0 h i l
+    go : (b : Bool) → allBelow n p ≡ b → false ≡ b
+    go true h = sym e ∙ below-each n p .0 h i l
     go false h = refl
 
-pub every-ext : (n : ℕ) (p q : ℕ → Bool) → ((i : ℕ) → i < n → p i ≡ q i) → every n p ≡ every n q
-unfolding every
-every-ext zero p q h = refl
-every-ext (suc n) p q h = ap₂ _&&_ (h n (omega arith)) (every-ext n p q (λ i l. h i (omega arith)))
+pub below-ext : (n : ℕ) (p q : ℕ → Bool) → ((i : ℕ) → i < n → p i ≡ q i) → allBelow n p ≡ allBelow n q
+unfolding allBelow
+below-ext zero p q h = refl
+below-ext (suc n) p q h = ap₂ _&&_ (h n (omega arith)) (below-ext n p q (λ i l. h i (omega arith)))

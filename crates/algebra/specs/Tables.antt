@@ -31,9 +31,9 @@ abbrev pub count : ℕ → (ℕ → Bool) → ℕ
 count n p = ones (tab n p)
 
 -- every i below n passes the test
-unfoldable pub every : ℕ → (ℕ → Bool) → Bool
-every zero p = true
-every (suc n) p = p n && every n p
+unfoldable pub allBelow : ℕ → (ℕ → Bool) → Bool
+allBelow zero p = true
+allBelow (suc n) p = p n && allBelow n p
 
 -- f 0 + f 1 + .. + f (n − 1)
 abbrev pub total : ℕ → (ℕ → ℕ) → ℕ

@@ -3,7 +3,7 @@
 -- single word's demands stand in the crate `word`.
 -- Assumes nothing.
 use mathlib.Core.Path.{_≡_, refl, sym, ap, subst⁻¹, _∙_}
-use mathlib.Core.Logic.{_≢_, _⊎_, inl, inr, ⊎-elim}
+use mathlib.Core.Logic.{_≢_, _↔_, _⊎_, inl, inr, ⊎-elim}
 use mathlib.Core.Bool.{Bool, true, false, _||_, true≢false}
 use mathlib.Core.List.{List, [], _∷_}
 use Prim.Native.Nat.{ℕ, _+_, _*_, _≤_, _<_}
@@ -15,13 +15,14 @@ use lib.ListN.{length, getD}
 use Rattle.rules.specs.Codes.{smallCode, dataBits}
 use Rattle.rules.specs.Words.{isIn}
 use Rattle.rules.specs.Frames.{Frame, corner}
-use Rattle.rules.specs.Bits.{rowBytes, stride, bitAt, frameOf, bytesOf}
+use Rattle.rules.specs.Bits.{rowBytes, stride, bitAt, frameOf, bytesOf, spareOnes}
 use Rattle.rules.specs.Passes as passes
 use Rattle.rules.specs.Passes.{Outcome, decoded}
 use Rattle.rules.specs.Damage.{spoilt, wrongBits}
 use Rattle.rules.specs.Numbers as rules
 use Rattle.rules.specs.Numbers.{mostAllowed, dataBytes, frameBytes, frameFor, encodeOutput, readNumber, readOutput, number, figuresOf, figuresWith, decodeSaid, decodeOutput}
-use Rattle.rules.proofs.Laws.NumberLaws.{told-success, told-both}
+use Rattle.rules.proofs.Laws.NumberLaws.{Sized, told-success, told-both}
+use Rattle.rules.proofs.Laws.ErasedLaws.{onesSquare}
 use Rattle.rules.proofs.Promises.Passes.{after, PassRule}
 use Rattle.rules.proofs.Promises.Refusals.{NumberTable, GoodRow, rowOfBytes}
 use Rattle.rules.proofs.Promises.EntryRules.{Given, EncodeRule, ReadRule, decodeReasons, DecodeRule}
@@ -120,7 +121,16 @@ pub record Demand₂ : Type 0 where
   pub repaired-is : (p b r c : ℕ) → figures (ended Repaired p b r c) ≡ figuresWith 0 p b 0 0
   pub stuck-is : (p b r c : ℕ) → figures (ended Stuck p b r c) ≡ figuresWith 7 p b r c
   pub spent-is : (p b r c : ℕ) → figures (ended Spent p b r c) ≡ figuresWith 8 p b r c
-  -- what was encoded is read back; the message's entries are bytes
+  -- encode gives 10 for one message alone, 239 rows of ones at n = 256; a message's entries are bytes
+  pub one-message :
+      (n : ℕ) (message output : List ℕ) (r : ℕ) (exit : List ℕ) → Encodes n message output r exit → ((p : ℕ) → getD message p 0 < 256)
+      → (r ≡ 10) ↔ ((n ≡ 256) × (message ≡ bytesOf 239 (onesSquare 239)) × (length output ≡ frameBytes 256))
+  -- and takes every other that is of its size and has no spare bit set
+  pub others :
+      (n : ℕ) (message output : List ℕ) (r : ℕ) (exit : List ℕ) → Encodes n message output r exit → ((p : ℕ) → getD message p 0 < 256)
+      → Sized smallCode n message (dataBytes smallCode n) output (frameBytes n) → spareOnes (dataBits smallCode n) message ≡ 0
+      → ¬ ((n ≡ 256) × (message ≡ bytesOf 239 (onesSquare 239))) → r ≡ 0
+  -- what was encoded is read back
   pub back :
       (n : ℕ) (message output frame : List ℕ) → Encodes n message output 0 frame → ((p : ℕ) → getD message p 0 < 256)
       → (lent : List ℕ) (r : ℕ) (exit : List ℕ) → length lent ≡ dataBytes smallCode n → Reads n frame lent r exit
@@ -273,6 +283,8 @@ demand₂ = record {
   repaired-is = λ p b r c. refl;
   stuck-is = λ p b r c. refl;
   spent-is = λ p b r c. refl;
+  one-message = λ n message output r exit e bytes. rw (e .0) (small-ones .one-message n message output bytes);
+  others = λ n message output r exit e bytes f z other. e .0 ∙ small-ones .others n message output bytes f z other;
   back = λ n message output frame e bytes lent r exit h c.
       let t = promised-small .round-trips .trip n message output (sym (e .0)) in
       let p : (readNumber smallCode n frame lent ≡ 0) × (readOutput smallCode n frame lent ≡ message) =

@@ -35,7 +35,7 @@ decodedOf (rules.refused k) = Refused k
 decodedOf rules.erased = Ended (uncounted Erased)
 decodedOf (rules.ended e p b r c) = Ended (reportWith e p b r c)
 
--- all but clean and repaired
+-- stuck and spent; the passes never end as erased
 abbrev pub isFailure : Ending → Bool
 isFailure Clean = false
 isFailure Repaired = false

@@ -58,7 +58,7 @@ fn uncounted(ending: Ending) -> Report
     }
 }
 
-// All but clean and repaired hand no frame out.
+// Stuck and spent hand nothing out. `repair` never ends as erased: the match names it since it must name all.
 fn is_failure(ending: Ending) -> bool
     ensures { λ r. ⌜ r ≡ isFailure ending ⌝ }
 {

@@ -2,6 +2,7 @@
 -- header reads out of its number.
 -- Assumes nothing.
 use mathlib.Core.Path.{_≡_, refl, sym, ap, _∙_}
+use mathlib.Core.Logic.{_↔_}
 use mathlib.Core.List.{List, [], _∷_}
 use Prim.Native.Nat.{ℕ, _≤_, _<_}
 use lib.ListN.{length, getD}
@@ -12,6 +13,7 @@ use Rattle.rules.specs.Passes.{decoded}
 use Rattle.rules.specs.Numbers.{mostAllowed, dataBytes, frameBytes, frameFor, Decoded, figuresOf, decodeSaid}
 use Rattle.rules.specs.Packed.{unpackedFigures}
 use Rattle.rules.specs.Damage.{wrongBits}
+use Rattle.rules.proofs.Laws.ErasedLaws.{onesSquare}
 use Rattle.rules.proofs.Promises.Packing.{packs}
 use Rattle.rules.proofs.Promises.Refusals.{NumberTable}
 use Rattle.rules.proofs.Promises.EntryRules.{EncodeRule, ReadRule, DecodeRule}
@@ -47,6 +49,10 @@ pub record HostDemands : Type 0 where
   pub decode :
       (n allowance : ℕ) (received output : List ℕ) (r : ℕ) (exit : List ℕ) → DecodesPacked n allowance received output r exit
       → (d : Decoded) × (unpackedFigures r ≡ figuresOf d) × DecodeRule smallCode n allowance received output d exit
+  -- encode gives 10 for one message alone, 239 rows of ones at n = 256
+  pub one-message :
+      (n : ℕ) (message output : List ℕ) (r : ℕ) (exit : List ℕ) → Encodes n message output r exit → ((p : ℕ) → getD message p 0 < 256)
+      → (r ≡ 10) ↔ ((n ≡ 256) × (message ≡ bytesOf 239 (onesSquare 239)) × (length output ≡ frameBytes 256))
   -- what was encoded is read back
   pub back :
       (n : ℕ) (message output frame : List ℕ) → Encodes n message output 0 frame → ((p : ℕ) → getD message p 0 < 256)
@@ -96,6 +102,7 @@ host-demands = record {
     read-out n allowance received output r exit e,
     rw (e .1) (promised-small .entries .decodes n allowance received output),
   );
+  one-message = demand₂ .one-message;
   back = demand₂ .back;
   library = λ n allowance received output r exit e. (
     decodedOf (decodeSaid smallCode n allowance received output),

@@ -5,8 +5,8 @@ use mathlib.Core.Logic.{_≢_}
 use mathlib.Core.Bool.{Bool, true, false}
 use mathlib.Core.List.{List}
 use Prim.Native.Nat.{ℕ, _+_, _*_, _≤_, _<_}
-use Rattle.algebra.specs.Tables.{num, every}
-use Rattle.algebra.proofs.TableLaws.{num-zero, every-none, every-next, every-fails, every-ext}
+use Rattle.algebra.specs.Tables.{num, allBelow}
+use Rattle.algebra.proofs.TableLaws.{num-zero, below-none, below-next, below-fails, below-ext}
 use Rattle.rules.specs.Codes.{smallCode, dataBits}
 use Rattle.rules.specs.Frames.{cell, isErased}
 use Rattle.rules.specs.Bits.{stride, bitAt, frameOf}
@@ -22,12 +22,12 @@ use Rattle.laws.specs.InPlace.{onesAt}
 module _ (s : List ℕ) (start : ℕ) where
   pub bits-none : true ≡ onesAt 0 s start
   unfolding onesAt
-  bits-none = every-none (λ j. bitAt s (start + j))
+  bits-none = below-none (λ j. bitAt s (start + j))
 
   -- b is bit j
   pub bits-next : (j b : ℕ) → true ≡ onesAt j s start → b ≡ num (bitAt s (start + j)) → b ≢ 0 → true ≡ onesAt (j + 1) s start
   unfolding onesAt
-  bits-next j b h e k = every-next j (λ j. bitAt s (start + j)) h (go (bitAt s (start + j)) e)
+  bits-next j b h e k = below-next j (λ j. bitAt s (start + j)) h (go (bitAt s (start + j)) e)
     where
       go : (x : Bool) → b ≡ num x → x ≡ true
       go true q = refl
@@ -35,36 +35,36 @@ module _ (s : List ℕ) (start : ℕ) where
 
   pub bits-end : (n j b : ℕ) → j < n → b ≡ num (bitAt s (start + j)) → b ≡ 0 → false ≡ onesAt n s start
   unfolding onesAt
-  bits-end n j b l e z = every-fails n (λ j. bitAt s (start + j)) j l (num-zero (sym e ∙ z))
+  bits-end n j b l e z = below-fails n (λ j. bitAt s (start + j)) j l (num-zero (sym e ∙ z))
 
 -- ---- rows
 
 -- the first k rows of n bits are ones
 unfoldable pub onesRows : ℕ → List ℕ → ℕ → Bool
-onesRows n s k = every k (λ i. onesAt n s (i * stride n))
+onesRows n s k = allBelow k (λ i. onesAt n s (i * stride n))
 
 module _ (n : ℕ) (s : List ℕ) where
   pub rows-none : true ≡ onesRows n s 0
   unfolding onesRows
-  rows-none = every-none (λ i. onesAt n s (i * stride n))
+  rows-none = below-none (λ i. onesAt n s (i * stride n))
 
   -- w stands for the bits of a row, and r for what is said of row k
   pub rows-next : (k w : ℕ) (r : Bool) → true ≡ onesRows n s k → w ≡ stride n → r ≡ onesAt n s (k * w) → r ≡ true → true ≡ onesRows n s (k + 1)
   unfolding onesRows
   rows-next k w r h ew er t =
-      every-next k (λ i. onesAt n s (i * stride n)) h (ap (λ (x : ℕ). onesAt n s (k * x)) (sym ew) ∙ sym er ∙ t)
+      below-next k (λ i. onesAt n s (i * stride n)) h (ap (λ (x : ℕ). onesAt n s (k * x)) (sym ew) ∙ sym er ∙ t)
 
   pub rows-all : onesRows n s n ≡ isErased n (frameOf n s)
   unfolding onesRows onesAt isErased
   rows-all =
-      every-ext n (λ i. every n (λ j. bitAt s (i * stride n + j))) (λ i. every n (λ j. cell (frameOf n s) i j))
+      below-ext n (λ i. allBelow n (λ j. bitAt s (i * stride n + j))) (λ i. allBelow n (λ j. cell (frameOf n s) i j))
       (λ i l.
-      every-ext n (λ j. bitAt s (i * stride n + j)) (λ j. cell (frameOf n s) i j) (λ j m. sym (frameOf-cell n s i j l m)))
+      below-ext n (λ j. bitAt s (i * stride n + j)) (λ j. cell (frameOf n s) i j) (λ j m. sym (frameOf-cell n s i j l m)))
 
   pub rows-end : (k w : ℕ) (r : Bool) → k < n → w ≡ stride n → r ≡ onesAt n s (k * w) → r ≡ false → false ≡ isErased n (frameOf n s)
   unfolding onesRows
   rows-end k w r l ew er t =
-      every-fails n (λ i. onesAt n s (i * stride n)) k l (ap (λ (x : ℕ). onesAt n s (k * x)) (sym ew) ∙ sym er ∙ t) ∙ rows-all
+      below-fails n (λ i. onesAt n s (i * stride n)) k l (ap (λ (x : ℕ). onesAt n s (k * x)) (sym ew) ∙ sym er ∙ t) ∙ rows-all
 
 -- ---- the small code's data
 

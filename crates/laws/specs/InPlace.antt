@@ -4,7 +4,7 @@ use mathlib.Core.List.{List}
 use Prim.Native.Nat.{ℕ, zero, suc, _+_, _*_, _-_, _/_, _%_, _^_, _≤_, _<_}
 use lib.ListN.{length, getD, set}
 use Rattle.algebra.specs.Xor.{_⊕_}
-use Rattle.algebra.specs.Tables.{tab, every}
+use Rattle.algebra.specs.Tables.{tab, allBelow}
 use Rattle.algebra.specs.Words.{Word, bit, differ}
 use Rattle.rules.specs.Codes.{Code, lengthLimit}
 use Rattle.rules.specs.Bits.{squareBytes, bitAt, wordOf}
@@ -18,7 +18,7 @@ wordAt n s start step = tab n (bitsAt s start step)
 
 -- the n bits from bit `start` on are ones
 unfoldable pub onesAt : ℕ → List ℕ → ℕ → Bool
-onesAt n s start = every n (λ j. bitAt s (start + j))
+onesAt n s start = allBelow n (λ j. bitAt s (start + j))
 
 -- in how many of the m bits from byte `at` on two buffers differ
 unfoldable pub differAt : ℕ → List ℕ → List ℕ → ℕ → ℕ

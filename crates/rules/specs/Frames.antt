@@ -5,7 +5,7 @@ use mathlib.Core.List.{List, []}
 use Prim.Native.Nat.{ℕ, _+_, _<_}
 use lib.Dec.{eqb}
 use lib.ListN.{length, getD}
-use Rattle.algebra.specs.Tables.{tab, count, every}
+use Rattle.algebra.specs.Tables.{tab, count, allBelow}
 use Rattle.algebra.specs.Words.{Word, bit}
 use Rattle.rules.specs.Codes.{Code, dataBits}
 use Rattle.rules.specs.Words.{isCodeword, encodeWord}
@@ -41,9 +41,9 @@ badColumns code n f = badRows code n (transposed n f)
 unfoldable pub isFrame : Code → ℕ → Frame → Bool
 isFrame code n f = eqb (badRows code n f + badColumns code n f) 0
 
--- every bit is one: so does a block read that was erased and not written since
+-- RULES 6: every bit is one, as a block of flash reads after it was wiped
 unfoldable pub isErased : ℕ → Frame → Bool
-isErased n f = every n (λ i. every n (λ j. cell f i j))
+isErased n f = allBelow n (λ i. allBelow n (λ j. cell f i j))
 
 -- the upper left k × k bits; those of a frame are its data
 unfoldable pub corner : ℕ → Frame → Frame

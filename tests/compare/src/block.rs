@@ -5,7 +5,7 @@ use crate::case::{Case, Entry, Said};
 use crate::found::Found;
 use crate::promise::Promise;
 use second::Code;
-use shared::bits::{LONGEST, NEAR_ONES, SHORTEST};
+use shared::bits::{square_bytes, CHECK_BITS, LONGEST, NEAR_ONES, SHORTEST};
 use shared::division::{is_codeword, is_frame_of};
 use shared::random::Random;
 use shared::run::{on_all, Scale};
@@ -102,6 +102,24 @@ impl Block<'_> {
 
     pub fn case(&mut self, entry: Entry, input: Vec<u8>, output_len: usize) -> Case {
         Case::new(&mut self.random, entry, self.n, input, output_len)
+    }
+
+    pub fn encode_case(&mut self, data: Vec<u8>) -> Case {
+        self.case(Entry::Encode, data, square_bytes(self.n))
+    }
+
+    pub fn read_case(&mut self, frame: Vec<u8>) -> Case {
+        self.case(Entry::Read, frame, square_bytes(self.n - CHECK_BITS))
+    }
+
+    pub fn decode_case(&mut self, allowance: usize, received: Vec<u8>) -> Case {
+        self.case(Entry::Decode, received, square_bytes(self.n)).with(allowance)
+    }
+
+    /// A call that leaves the output as it is, for this number.
+    pub fn check_refused(&mut self, case: Case, number: u64) {
+        let promise = Promise::refused(number, &case);
+        self.check(case, promise, &[]);
     }
 
     /// Puts a case to both sides. `written` is what was there before the damage, or empty.

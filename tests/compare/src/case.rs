@@ -153,10 +153,15 @@ impl Case {
     }
 }
 
+/// The result of decode: number, passes, bits, rows and columns.
+pub fn packed([number, passes, bits, rows, columns]: [u64; 5]) -> u64 {
+    number | passes << 8 | bits << 16 | rows << 32 | columns << 48
+}
+
 fn pack_report(report: Report) -> u64 {
     let counts = [report.passes, report.bits, report.bad_rows, report.bad_columns];
     let [passes, bits, rows, columns] = counts.map(|count| count as u64);
-    u64::from(report.number()) | passes << 8 | bits << 16 | rows << 32 | columns << 48
+    packed([report.number().into(), passes, bits, rows, columns])
 }
 
 fn pack_answer(answer: Answer) -> u64 {

@@ -1,19 +1,10 @@
 //! Encoding data and reading it back.
 
 use crate::block::Block;
-use crate::case::{Case, Entry};
 use crate::promise::Promise;
 use shared::bits::{all_ones, clear_spare_bits, has_spare_bits, row_mut, square_bytes, wrong_bits, CHECK_BITS};
 use shared::damage;
 use shared::written::{self, Written};
-
-fn encode_case(block: &mut Block, data: Vec<u8>) -> Case {
-    block.case(Entry::Encode, data, square_bytes(block.n))
-}
-
-fn read_case(block: &mut Block, frame: Vec<u8>) -> Case {
-    block.case(Entry::Read, frame, square_bytes(block.n - CHECK_BITS))
-}
 
 /// The first data of each n is empty, the second full.
 fn some_data(block: &mut Block, index: usize) -> Vec<u8> {
@@ -36,10 +27,10 @@ fn some_frame(block: &mut Block, index: usize) -> Written {
 pub fn encode(block: &mut Block) {
     for index in 0..block.count {
         let written = some_frame(block, index);
-        let case = encode_case(block, written.data.clone());
+        let case = block.encode_case(written.data.clone());
         let promise = Promise::encoded(&case);
         block.check(case, promise, &[]);
-        let case = read_case(block, written.frame.clone());
+        let case = block.read_case(written.frame.clone());
         block.check(case, Promise::Exactly(0, written.data), &written.frame);
     }
 }
@@ -56,7 +47,7 @@ pub fn encode_spare_bits(block: &mut Block) {
             damage::set_spare_bits(&mut block.random, k, &mut data);
         }
         let refused = has_spare_bits(k, &data);
-        let case = encode_case(block, data);
+        let case = block.encode_case(data);
         let promise = if refused { Promise::refused(5, &case) } else { Promise::encoded(&case) };
         block.check(case, promise, &[]);
     }
@@ -67,7 +58,7 @@ pub fn read_spare_bits(block: &mut Block) {
         let written = some_frame(block, index);
         let mut frame = written.frame.clone();
         damage::set_spare_bits(&mut block.random, block.n, &mut frame);
-        let case = read_case(block, frame);
+        let case = block.read_case(frame);
         block.check(case, Promise::Exactly(0, written.data), &written.frame);
     }
 }
@@ -84,7 +75,7 @@ pub fn read_damaged(block: &mut Block) {
         let wrong = wrong_bits(block.n, &written, &frame);
         let rows = wrong.iter().filter(|&&count| count > 0).count();
         let total: usize = wrong.iter().sum();
-        let case = read_case(block, frame);
+        let case = block.read_case(frame);
         let promise = if all_ones(block.n, &case.input) {
             Promise::refused(10, &case)
         } else if total > 0 && (rows < 6 || total < 36) {

@@ -1,18 +1,15 @@
 //! Frames at the edges: counts at their greatest, damage that just can be mended or just can't, and single bits.
 
 use crate::block::Block;
-use crate::case::Entry;
-use crate::frames::case;
+use crate::case::packed;
 use crate::promise::Promise;
 use shared::bits::{flip_at, has_spare_bits, on_spare_bits, row_mut, square_bytes, CHECK_BITS};
 use shared::damage;
 
 /// Decodes a frame: the answer, as its five counts, and the output must be these.
 fn decode(block: &mut Block, allowance: usize, received: &[u8], counts: [u64; 5], output: &[u8]) {
-    let case = case(block, allowance, received.to_vec());
-    let [number, passes, bits, rows, columns] = counts;
-    let result = number | passes << 8 | bits << 16 | rows << 32 | columns << 48;
-    block.check(case, Promise::Exactly(result, output.to_vec()), &[]);
+    let case = block.decode_case(allowance, received.to_vec());
+    block.check(case, Promise::Exactly(packed(counts), output.to_vec()), &[]);
 }
 
 /// Three wrong bits in every row and column. Such a word has no codeword within two: codewords differ in at least 6 places.
@@ -86,10 +83,8 @@ pub fn just_mended(block: &mut Block) {
             _ => damage::most_of_class(n, &mut received, [lines[0], lines[1]]),
         }
         let allowance = if kind == 4 { block.random.within(2, 32) } else { 2 };
-        let case = case(block, allowance, received);
-        let promise = Promise::of_frame(&case, &written);
-        // Within the class, and not all ones.
-        assert!(matches!(promise, Promise::Exactly(said, _) if said & 0xff == 0), "this damage is within the promise");
+        let case = block.decode_case(allowance, received);
+        let promise = Promise::within_the_class(&case, &written);
         block.check(case, promise, &written);
     }
 }
@@ -106,7 +101,7 @@ pub fn unreadable(block: &mut Block) {
         (0..if n == 18 { n * n } else { 6 }).map(|place| if n == 18 { place } else { block.random.below(n * n) }),
     );
     let mut read = |frame: Vec<u8>, good: bool| {
-        let case = block.case(Entry::Read, frame, data.len());
+        let case = block.read_case(frame);
         let promise = if good { Promise::Exactly(0, data.clone()) } else { Promise::refused(6, &case) };
         block.check(case, promise, &written);
     };
@@ -134,8 +129,7 @@ pub fn each_spare_bit(block: &mut Block) {
         let mut spoiled = data.clone();
         spoiled[place / 8] ^= 0x80 >> (place % 8);
         assert!(has_spare_bits(k, &spoiled));
-        let case = block.case(Entry::Encode, spoiled, square_bytes(n));
-        let promise = Promise::refused(5, &case);
-        block.check(case, promise, &[]);
+        let case = block.encode_case(spoiled);
+        block.check_refused(case, 5);
     }
 }

@@ -1,8 +1,7 @@
 //! Erased frames, whose code bits are all ones: what comes before number 10, what after it, and what is next to such a frame.
 
 use crate::block::Block;
-use crate::case::{Case, Entry};
-use crate::frames::case as decode_case;
+use crate::case::{packed, Case, Entry};
 use crate::promise::Promise;
 use crate::refusals::{exact, refusal};
 use shared::bits::{bytes_for, clear_spare_bits, flip_at, row_mut, square_bytes, CHECK_BITS, SHORTEST};
@@ -38,28 +37,15 @@ fn with_zero(random: &mut Random, n: usize, (i, j): (usize, usize)) -> Vec<u8> {
     frame
 }
 
-fn read_case(block: &mut Block, frame: Vec<u8>) -> Case {
-    block.case(Entry::Read, frame, square_bytes(block.n - CHECK_BITS))
-}
-
-fn encode_case(block: &mut Block, data: Vec<u8>) -> Case {
-    block.case(Entry::Encode, data, square_bytes(block.n))
-}
-
-fn check_refused(block: &mut Block, case: Case, number: u64) {
-    let promise = Promise::refused(number, &case);
-    block.check(case, promise, &[]);
-}
-
 /// Whatever the spare bits and the allowance. Reading, it is 10 also where the ones are no frame.
 pub fn frames(block: &mut Block) {
     for frame in of_ones(&mut block.random, block.n) {
         for allowance in [1, 2, block.random.within(3, 31), 32] {
-            let case = decode_case(block, allowance, frame.clone());
-            check_refused(block, case, 10);
+            let case = block.decode_case(allowance, frame.clone());
+            block.check_refused(case, 10);
         }
-        let case = read_case(block, frame);
-        check_refused(block, case, 10);
+        let case = block.read_case(frame);
+        block.check_refused(case, 10);
     }
 }
 
@@ -72,12 +58,12 @@ pub fn but_one_bit(block: &mut Block) {
     for zero in zeros {
         let frame = with_zero(&mut block.random, n, zero);
         for allowance in [1, block.random.within(2, 32)] {
-            let case = decode_case(block, allowance, frame.clone());
+            let case = block.decode_case(allowance, frame.clone());
             let promise = of_one_zero(&places, &case, zero);
             block.check(case, promise, &[]);
         }
-        let case = read_case(block, frame);
-        check_refused(block, case, 6);
+        let case = block.read_case(frame);
+        block.check_refused(case, 6);
     }
 }
 
@@ -89,13 +75,13 @@ fn of_one_zero(places: &Places, case: &Case, (i, j): (usize, usize)) -> Promise 
     if words[0] == Some(Vec::new()) {
         let mut mended = vec![0xff; case.input.len()];
         clear_spare_bits(n, &mut mended);
-        return Promise::Exactly(1 << 8 | 1 << 16, mended);
+        return Promise::Exactly(packed([0, 1, 1, 0, 0]), mended);
     }
-    let (beyond, all) = (words.iter().all(Option::is_none), (n as u64) << 32 | (n as u64) << 48);
+    let (beyond, all) = (words.iter().all(Option::is_none), n as u64);
     match case.argument {
         _ if !beyond => Promise::Not(10),
-        1 => Promise::Exactly(8 | 1 << 8 | all, case.input.clone()),
-        _ => Promise::Exactly(7 | 2 << 8 | all, case.input.clone()),
+        1 => Promise::Exactly(packed([8, 1, 0, all, all]), case.input.clone()),
+        _ => Promise::Exactly(packed([7, 2, 0, all, all]), case.input.clone()),
     }
 }
 
@@ -113,25 +99,32 @@ pub fn within_the_class(block: &mut Block) {
     add_crossings(k, &mut data, &in_data, &in_data);
     add_crossings(n, &mut written, &ones, &ones);
     block.divide(&data, &written, true);
-    let case = encode_case(block, data);
+    let case = block.encode_case(data);
     block.check(case, Promise::Exactly(0, written.clone()), &[]);
     for frame in of_ones(&mut block.random, n) {
         for allowance in [1, 2, 32] {
-            let case = decode_case(block, allowance, frame.clone());
-            check_refused(block, case, 10);
+            let case = block.decode_case(allowance, frame.clone());
+            block.check_refused(case, 10);
         }
     }
     spoiled(block, &written, [lost[0], lost[1]]);
 }
 
-/// All but two rows have two wrong bits, or one: ones with a zero in a lost row, or where the ones are wrong; lost rows of noise;
-/// and, no more of the class, a zero where a one is right.
+/// The frame was written with zeros in the two lost rows and at two places of each other row, and ones elsewhere. Received are
+/// ones, but for some bits, and it comes back. Only of the last no more is asked than that it is not erased.
 fn spoiled(block: &mut Block, written: &[u8], lost: [usize; 2]) {
     let n = block.n;
     let (any, other) = (block.random.below(n), (lost[0] + 1) % n);
-    let mut all = [(lost[0], any), (lost[1], any), (any, lost[0]), (any, lost[1])]
-        .map(|zero| with_zero(&mut block.random, n, zero))
-        .to_vec();
+    let zeros = [
+        // In a lost row, where anything may be wrong.
+        (lost[0], any),
+        (lost[1], any),
+        // Where a zero was written: if that row is not lost, it has one wrong bit left.
+        (any, lost[0]),
+        (any, lost[1]),
+    ];
+    let mut all = zeros.map(|zero| with_zero(&mut block.random, n, zero)).to_vec();
+    // The first lost row of noise, then the second, then both.
     for rows in [&lost[..1], &lost[1..], &lost[..]] {
         let mut noise = vec![0xff; written.len()];
         rows.iter().for_each(|&i| block.random.fill(row_mut(n, &mut noise, i)));
@@ -139,13 +132,13 @@ fn spoiled(block: &mut Block, written: &[u8], lost: [usize; 2]) {
     }
     for received in all {
         let allowance = block.random.within(2, 32);
-        let case = decode_case(block, allowance, received);
-        let promise = Promise::of_frame(&case, written);
-        assert!(matches!(promise, Promise::Exactly(said, _) if said & 0xff == 0), "this damage is within the promise");
+        let case = block.decode_case(allowance, received);
+        let promise = Promise::within_the_class(&case, written);
         block.check(case, promise, written);
     }
+    // The last, with a zero where a one was written: a third row has three wrong bits, so it is not of the class.
     let received = with_zero(&mut block.random, n, (other, other));
-    let case = decode_case(block, 32, received);
+    let case = block.decode_case(32, received);
     block.check(case, Promise::Not(10), written);
 }
 
@@ -156,15 +149,15 @@ pub fn data(block: &mut Block) {
     for place in [0, k * k - 1, block.random.below(k * k), block.random.below(k * k)] {
         let mut data = forms[0].clone();
         flip_at(k, &mut data, place / k, place % k);
-        let case = encode_case(block, data.clone());
+        let case = block.encode_case(data.clone());
         let promise = Promise::encoded(&case);
         block.check(case, promise, &[]);
         let written = block.write(data);
-        let case = read_case(block, written.frame.clone());
+        let case = block.read_case(written.frame.clone());
         block.check(case, Promise::Exactly(0, written.data), &written.frame);
     }
     for data in forms {
-        let case = encode_case(block, data);
+        let case = block.encode_case(data);
         check_ones(block, case);
     }
 }
@@ -172,7 +165,7 @@ pub fn data(block: &mut Block) {
 /// A case whose bits are all ones: refused, or encoded.
 fn check_ones(block: &mut Block, case: Case) {
     match refusal(&case) {
-        Some(number) => check_refused(block, case, number),
+        Some(number) => block.check_refused(case, number),
         None => {
             let promise = Promise::encoded(&case);
             block.check(case, promise, &[]);

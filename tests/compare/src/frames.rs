@@ -1,7 +1,7 @@
 //! Decoding of whole frames.
 
 use crate::block::{Block, Kind};
-use crate::case::{Case, Entry};
+use crate::case::packed;
 use crate::kinds::kind;
 use crate::promise::Promise;
 use second::Code;
@@ -22,10 +22,6 @@ fn allowance(random: &mut Random) -> usize {
     }
 }
 
-pub fn case(block: &mut Block, allowance: usize, received: Vec<u8>) -> Case {
-    block.case(Entry::Decode, received, square_bytes(block.n)).with(allowance)
-}
-
 /// What spoils a written frame of n rows.
 type Damage = fn(&Code, &mut Random, usize, &mut [u8]);
 
@@ -40,7 +36,7 @@ fn allowed(name: &'static str, count: usize, answers: &'static str, allowance: A
                 damage::set_spare_bits(&mut block.random, block.n, &mut received);
             }
             let allowance = allowance(&mut block.random);
-            let case = case(block, allowance, received);
+            let case = block.decode_case(allowance, received);
             let promise = Promise::of_frame(&case, &written);
             block.check(case, promise, &written);
         }
@@ -180,7 +176,7 @@ fn random_bytes(block: &mut Block) {
             received = vec![block.random.byte(); square_bytes(block.n)];
         }
         let allowance = allowance(&mut block.random);
-        let case = case(block, allowance, received);
+        let case = block.decode_case(allowance, received);
         block.check(case, Promise::None, &[]);
     }
 }
@@ -202,13 +198,11 @@ fn sixteen_bits(block: &mut Block) {
         add_crossings(n, &mut received, &rows[..4], &columns[..4]);
         add_crossings(n, &mut other, &rows, &columns);
         let allowance = allowance(&mut block.random);
-        let case = case(block, allowance, received.clone());
+        let case = block.decode_case(allowance, received.clone());
         let promise = if allowance == 1 {
-            let (passes, bits, bad_columns) = (1, 8, 6);
-            Promise::Exactly(8 | passes << 8 | bits << 16 | bad_columns << 48, received)
+            Promise::Exactly(packed([8, 1, 8, 0, 6]), received)
         } else {
-            let (passes, bits) = (2, 20);
-            Promise::Exactly(passes << 8 | bits << 16, other)
+            Promise::Exactly(packed([0, 2, 20, 0, 0]), other)
         };
         block.check(case, promise, &written);
     }

@@ -1,7 +1,7 @@
 //! The bench items of the rules, with the answers that they give.
 
 use crate::block::Block;
-use crate::case::{Case, Entry};
+use crate::case::{packed, Case, Entry};
 use crate::promise::Promise;
 use shared::bits::{bit, bytes_for, clear_spare_bits, flip, flip_at, on_spare_bits, square_bytes, LONGEST, SHORTEST};
 
@@ -26,10 +26,6 @@ fn decode(block: &mut Block, allowance: usize, frame: Vec<u8>, result: u64, mend
     block.check(case, Promise::Exactly(result, output), &[]);
 }
 
-fn packed(number: u64, passes: u64, bits: u64, rows: u64, columns: u64) -> u64 {
-    number | passes << 8 | bits << 16 | rows << 32 | columns << 48
-}
-
 /// Each at every allowance, with and without spare bits; and each spare bit alone.
 fn frames(block: &mut Block) {
     let item = |bytes: &[u8]| [bytes, &vec![0; 54 - bytes.len()]].concat();
@@ -43,11 +39,11 @@ fn frames(block: &mut Block) {
         });
         for allowance in 1..=32 {
             decode(block, allowance, a.clone(), 0, true);
-            decode(block, allowance, b.clone(), packed(0, 1, 2, 0, 0), true);
-            decode(block, allowance, last.clone(), packed(0, 1, 1, 0, 0), true);
+            decode(block, allowance, b.clone(), packed([0, 1, 2, 0, 0]), true);
+            decode(block, allowance, last.clone(), packed([0, 1, 1, 0, 0]), true);
             let [of_c, of_d, of_ten] = match allowance {
-                1 => [packed(8, 1, 0, 2, 18), packed(8, 1, 0, 3, 3), packed(8, 1, 2, 0, 12)],
-                _ => [packed(0, 2, 36, 0, 0), packed(7, 2, 0, 3, 3), packed(0, 2, 10, 0, 0)],
+                1 => [packed([8, 1, 0, 2, 18]), packed([8, 1, 0, 3, 3]), packed([8, 1, 2, 0, 12])],
+                _ => [packed([0, 2, 36, 0, 0]), packed([7, 2, 0, 3, 3]), packed([0, 2, 10, 0, 0])],
             };
             decode(block, allowance, c.clone(), of_c, allowance > 1);
             decode(block, allowance, d.clone(), of_d, false);
@@ -63,27 +59,21 @@ fn frames(block: &mut Block) {
     }
 }
 
-/// A call that leaves the output as it is, for this number.
-fn refused(block: &mut Block, case: Case, number: u64) {
-    let promise = Promise::refused(number, &case);
-    block.check(case, promise, &[]);
-}
-
 /// A frame of ones, spare bits zero or set: at every allowance, and with each code bit zero.
 fn erased(block: &mut Block) {
     for spare in [0, 0x3f] {
         let frame = [0xff, 0xff, 0xc0 | spare].repeat(18);
         for allowance in 0..=33 {
             let case = Case::new(&mut block.random, Entry::Decode, 18, frame.clone(), 54).with(allowance);
-            refused(block, case, if (1..=32).contains(&allowance) { 10 } else { 4 });
+            block.check_refused(case, if (1..=32).contains(&allowance) { 10 } else { 4 });
         }
         for place in 0..18 * 18 {
             let mut other = frame.clone();
             flip_at(18, &mut other, place / 18, place % 18);
-            decode(block, 2, other, packed(7, 2, 0, 18, 18), false);
+            decode(block, 2, other, packed([7, 2, 0, 18, 18]), false);
         }
         let case = Case::new(&mut block.random, Entry::Read, 18, frame, 1);
-        refused(block, case, 10);
+        block.check_refused(case, 10);
     }
 }
 
@@ -92,16 +82,16 @@ fn ones(block: &mut Block) {
     for n in [256, 255, 254] {
         let frame = vec![0xff; square_bytes(n)];
         let case = Case::new(&mut block.random, Entry::Decode, n, frame.clone(), frame.len()).with(2);
-        refused(block, case, 10);
+        block.check_refused(case, 10);
         let case = Case::new(&mut block.random, Entry::Read, n, frame, square_bytes(n - 17));
-        refused(block, case, 10);
+        block.check_refused(case, 10);
         let mut data = vec![0xff; square_bytes(n - 17)];
         let case = Case::new(&mut block.random, Entry::Encode, n, data.clone(), square_bytes(n));
-        refused(block, case, 5);
+        block.check_refused(case, 5);
         clear_spare_bits(n - 17, &mut data);
         let case = Case::new(&mut block.random, Entry::Encode, n, data, square_bytes(n));
         if n == LONGEST {
-            refused(block, case, 10);
+            block.check_refused(case, 10);
         } else {
             let promise = Promise::encoded(&case);
             block.check(case, promise, &[]);

@@ -5,7 +5,7 @@
 //! the four columns are refused. The pass over columns takes the two added columns back.
 
 use crate::block::Block;
-use crate::frames::case;
+use crate::case::packed;
 use crate::promise::Promise;
 use shared::bits::flip_at;
 use shared::damage;
@@ -38,7 +38,7 @@ pub fn knots(block: &mut Block) {
             damage::set_spare_bits(&mut block.random, n, &mut received);
         }
         let promise = promise(knots as u64, allowance as u64, received.clone());
-        let case = case(block, allowance, received);
+        let case = block.decode_case(allowance, received);
         block.check(case, promise, &written);
     }
 }
@@ -47,8 +47,7 @@ fn promise(knots: u64, allowance: u64, received: Vec<u8>) -> Promise {
     let (rows, columns) = if allowance % 2 == 1 { (2, 6) } else { (4, 4) };
     // Those that the last pass over rows has added, where none over columns took them back.
     let bits = 4 * knots * (allowance % 2);
-    let result = 8 | allowance << 8 | bits << 16 | (knots * rows) << 32 | (knots * columns) << 48;
-    Promise::Exactly(result, received)
+    Promise::Exactly(packed([8, allowance, bits, knots * rows, knots * columns]), received)
 }
 
 /// Damages a frame by so many knots, no two of which share a row or a column.

@@ -1,6 +1,6 @@
 //! What the rules promise of a case by the way it was made, whatever the second program says.
 
-use crate::case::{Case, Said};
+use crate::case::{packed, Case, Said};
 use shared::bits::{follows, Follows};
 use shared::division::is_frame_of;
 
@@ -35,7 +35,7 @@ impl Promise {
 
     /// What follows for decode, at a good allowance, from the rows' numbers of wrong bits, or since all bits are ones.
     pub fn of_frame(case: &Case, written: &[u8]) -> Promise {
-        let mended = |passes: u64, wrong| Promise::Exactly(passes << 8 | (wrong as u64) << 16, written.to_vec());
+        let mended = |passes, wrong| Promise::Exactly(packed([0, passes, wrong as u64, 0, 0]), written.to_vec());
         match follows(case.n, case.argument, written, &case.input) {
             Follows::Erased => Promise::refused(10, case),
             Follows::Clean => mended(0, 0),
@@ -43,6 +43,13 @@ impl Promise {
             Follows::TwoPasses(wrong) => mended(2, wrong),
             Follows::Nothing => Promise::None,
         }
+    }
+
+    /// The same, of damage that must be mended: within the class, and not all ones.
+    pub fn within_the_class(case: &Case, written: &[u8]) -> Promise {
+        let promise = Promise::of_frame(case, written);
+        assert!(matches!(promise, Promise::Exactly(said, _) if said & 0xff == 0), "this damage is within the promise");
+        promise
     }
 
     /// What follows for a word with `wrong` places, all different.

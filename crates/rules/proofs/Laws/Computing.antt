@@ -2,7 +2,7 @@
 -- Assumes nothing.
 use mathlib.Core.Bool.{xor}
 use Rattle.algebra.specs.Xor.{_⊕_}
-use Rattle.algebra.specs.Tables.{tabFrom, tab, ones, sum, every}
+use Rattle.algebra.specs.Tables.{tabFrom, tab, ones, sum, allBelow}
 use Rattle.algebra.specs.Words.{bit, _⊻_}
 use Rattle.algebra.specs.Remainder.{shift, register, descend, binary, systematic}
 use Rattle.rules.specs.Field.{poly}
@@ -15,5 +15,5 @@ use Rattle.rules.specs.Numbers.{encodeNumber, encodeOutput, decodeRefusa
 use Rattle.rules.specs.Damage.{spoilt}
 
 unfoldable pub computing : Unit {0}
-unfolding _⊕_ tabFrom tab ones sum every bit _⊻_ xor shift register descend binary systematic poly g remainder checks isCodeword encodeWord values exactly within answer isIn changed mend row transposed badRows badColumns isFrame isErased corner rowsFirst bitAt wordOf frameOf packed wordBytes bytesOf spareOnes passRows passColumns pass differences passesFrom decoded encodeNumber encodeOutput decodeRefusal decodeSaid decodeOutput wordRefusal wordSaid wordOutput spoilt
+unfolding _⊕_ tabFrom tab ones sum allBelow bit _⊻_ xor shift register descend binary systematic poly g remainder checks isCodeword encodeWord values exactly within answer isIn changed mend row transposed badRows badColumns isFrame isErased corner rowsFirst bitAt wordOf frameOf packed wordBytes bytesOf spareOnes passRows passColumns pass differences passesFrom decoded encodeNumber encodeOutput decodeRefusal decodeSaid decodeOutput wordRefusal wordSaid wordOutput spoilt
 computing = tt

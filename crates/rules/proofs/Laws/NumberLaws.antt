@@ -3,7 +3,7 @@
 use mathlib.Core.Path.{_≡_, refl, sym, ap, _∙_}
 use mathlib.Core.Logic.{_≢_, _↔_, _⊎_, inl, inr, Iff·trans, Iff·rfl}
 use mathlib.Core.Bool.{Bool, true, false, not, _&&_, true≢false}
-use mathlib.Core.List.{List, [], _∷_, map}
+use mathlib.Core.List.{List, [], _∷_, _++_, map}
 use Prim.Native.Nat.{ℕ, _≤_}
 use native.Mathlib.Omega.{arith}
 use lib.Dec.{eqb, leb}
@@ -14,7 +14,7 @@ use Rattle.rules.specs.Words.{isIn, answer, mend}
 use Rattle.rules.specs.Frames.{isFrame, isErased, corner}
 use Rattle.rules.specs.Bits.{rowBytes, wordOf, frameOf, wordBytes, bytesOf, spareOnes}
 use Rattle.rules.specs.Passes.{Ending, clean, repaired, stuck, spent, Outcome, decoded}
-use Rattle.rules.specs.Numbers.{told, handedOut, ended, number, Figures, figuresOf, mostAllowed, pick, outside, notLong, notAllowed, dataBytes, frameBytes, encodeNumber, encodeOutput, frameFor, readNumber, readOutput, refused, erased, undecoded, decodeRefusal, decodeSaid, decodeOutput, wordRefused, answered, wordRefusal, wordSaid, wordNumber, wordOutput, RefusalList, first, sizeRefusals, encodeRefusals, readRefusals, decodeRefusals, wordRefusals}
+use Rattle.rules.specs.Numbers.{told, handedOut, ended, number, Figures, figuresOf, mostAllowed, pick, notAllowed, dataBytes, frameBytes, encodeNumber, encodeOutput, frameFor, readNumber, readOutput, refused, erased, undecoded, decodeRefusal, decodeSaid, decodeOutput, wordRefused, answered, wordRefusal, wordSaid, wordNumber, wordOutput, RefusalList, first, sizeRefusals, encodeRefusals, readRefusals, decodeRefusals, wordRefusals}
 use Rattle.rules.proofs.Laws.OneOfLaws.{OneOf, one-of-self, one-of-cons, one-of-back, one-of-front, none-of-cons}
 
 -- ---- a list of checks
@@ -57,6 +57,21 @@ first-clear (check ∷ later) h = let t = none-of-cons 0 (check .1) (numbers lat
         → (pick b (check .1) (first later) ≡ 0) ↔ ((b ≡ false) × Clear later)
     go true some rest = (λ e. absurd (some (sym e)), λ e. absurd (true≢false (e .0)))
     go false some rest = (λ e. (refl, rest .0 e), λ e. rest .1 (e .1))
+
+-- the last check's number, which is no other's, is given exactly if that one does, and none before it
+pub first-last :
+    (before : RefusalList) (t : Bool) (r : ℕ) → isIn r (numbers before) ≡ false → r ≢ 0
+    → (first (before ++ (t, r) ∷ []) ≡ r) ↔ (Clear before × (t ≡ true))
+first-last [] true r other some = (λ e. (tt, refl), λ e. refl)
+first-last [] false r other some = (λ e. absurd (some (sym e)), λ c. absurd (true≢false (sym (c .1))))
+first-last (check ∷ before) t r other some =
+    let o = none-of-cons r (check .1) (numbers before) other in go (check .0) (o .0) (first-last before t r (o .1) some)
+  where
+    go :
+        (b : Bool) → r ≢ check .1 → (first (before ++ (t, r) ∷ []) ≡ r) ↔ (Clear before × (t ≡ true))
+        → (pick b (check .1) (first (before ++ (t, r) ∷ [])) ≡ r) ↔ (((b ≡ false) × Clear before) × (t ≡ true))
+    go true o rest = (λ e. absurd (o (sym e)), λ c. absurd (true≢false (c .0 .0)))
+    go false o rest = (λ e. let c = rest .0 e in ((refl, c .0), c .1), λ c. rest .1 (c .0 .1, c .1))
 
 -- ---- the tests: a check that doesn't apply
 
@@ -160,28 +175,17 @@ pub encode-erased :
     (code : Code) (n : ℕ) (input output : List ℕ)
     → (encodeNumber code n input output ≡ 10)
     ↔ (Sized code n input (dataBytes code n) output (frameBytes n) × (spareOnes (dataBits code n) input ≡ 0) × (isErased n (frameFor code n input) ≡ true))
-unfolding encodeNumber
+unfolding encodeNumber isIn
 encode-erased code n input output =
-    Iff·trans
-    (first-last (outside code n) (notLong input (dataBytes code n)) (notLong output (frameBytes n)) (not (eqb (spareOnes (dataBits code n) input) 0))
-    (isErased n (frameFor code n input))) (
-      λ t. (sized code n input (dataBytes code n) output (frameBytes n) [] .0 (t .0, (t .1, (t .2, tt))) .0, equal-test (spareOnes (dataBits code n) input) 0 .0 (t .3), t .4),
-      λ t.
-          let c = sized code n input (dataBytes code n) output (frameBytes n) [] .1 (t .0, tt) in
-          (c .0, c .1 .0, c .1 .1 .0, equal-test (spareOnes (dataBits code n) input) 0 .1 (t .1), t .2),
+    let k : ℕ = dataBits code n in
+    let spare : RefusalList = (not (eqb (spareOnes k input) 0), 5) ∷ [] in
+    let before : RefusalList = sizeRefusals code n input (dataBytes code n) output (frameBytes n) spare in
+    let s = sized code n input (dataBytes code n) output (frameBytes n) spare in
+    let t = equal-test (spareOnes k input) 0 in
+    Iff·trans (first-last before (isErased n (frameFor code n input)) 10 refl (λ e. omega arith)) (
+      λ c. let p = s .0 (c .0) in (p .0, t .0 (p .1 .0), c .1),
+      λ p. (s .1 (p .0, (t .1 (p .1), tt)), p .2),
     )
-  where
-    -- only the last of five checks applies
-    first-last :
-        (a b c d e : Bool)
-        → (first ((a, 1) ∷ (b, 2) ∷ (c, 3) ∷ (d, 5) ∷ (e, 10) ∷ []) ≡ 10)
-        ↔ ((a ≡ false) × (b ≡ false) × (c ≡ false) × (d ≡ false) × (e ≡ true))
-    first-last true b c d e = (λ h. absurd (omega arith), λ h. absurd (true≢false (h .0)))
-    first-last false true c d e = (λ h. absurd (omega arith), λ h. absurd (true≢false (h .1)))
-    first-last false false true d e = (λ h. absurd (omega arith), λ h. absurd (true≢false (h .2)))
-    first-last false false false true e = (λ h. absurd (omega arith), λ h. absurd (true≢false (h .3)))
-    first-last false false false false true = (λ h. (refl, refl, refl, refl, refl), λ h. refl)
-    first-last false false false false false = (λ h. absurd (omega arith), λ h. absurd (true≢false (sym (h .4))))
 
 -- ---- what is said or written, by the number
 
@@ -226,10 +230,12 @@ pub decode-erased :
     (code : Code) (n allowance : ℕ) (input output : List ℕ) → Sized code n input (frameBytes n) output (frameBytes n)
     → (1 ≤ allowance) × (allowance ≤ mostAllowed) → isErased n (frameOf n input) ≡ true
     → (decodeSaid code n allowance input output ≡ erased) × (decodeOutput code n allowance input output ≡ output)
-unfolding decodeRefusal
+unfolding decodeRefusal isIn
 decode-erased code n allowance input output f a e =
-    let c = sized code n input (frameBytes n) output (frameBytes n) [] .1 (f, tt) in
-    let z : decodeRefusal code n allowance input output ≡ 10 = rw (c .0, c .1 .0, c .1 .1 .0, range-test 1 mostAllowed allowance .1 a, e) in
+    let allowed : RefusalList = (notAllowed allowance, 4) ∷ [] in
+    let c = sized code n input (frameBytes n) output (frameBytes n) allowed .1 (f, (range-test 1 mostAllowed allowance .1 a, tt)) in
+    let z : decodeRefusal code n allowance input output ≡ 10 =
+    first-last (sizeRefusals code n input (frameBytes n) output (frameBytes n) allowed) (isErased n (frameOf n input)) 10 refl (λ h. omega arith) .1 (c, e) in
     let r = decode-refused code n allowance input output (λ h. omega arith) in
     (r .0 ∙ ap undecoded z, r .1)
 

@@ -1,8 +1,8 @@
--- RULES 6, number 10: the data that it is given for, and that demand 3 needs its premise.
+-- RULES 6, number 10: the data that encoding gives it for.
 -- Assumes nothing.
 use mathlib.Core.Path.{_≡_, refl, sym, ap, _∙_}
 use mathlib.Core.Logic.{_≢_, _↔_}
-use mathlib.Core.Bool.{Bool, true, not, _&&_}
+use mathlib.Core.Bool.{Bool, true, false, not, _&&_}
 use mathlib.Core.List.{List}
 use Prim.Native.Nat.{ℕ, zero, suc, _-_, _≤_, _<_}
 use native.Mathlib.Decide.{decLt}
@@ -16,15 +16,15 @@ use Rattle.rules.specs.Codes.{Code, dataBits, g, smallCode}
 use Rattle.rules.specs.Words.{remainder, checks, isCodeword}
 use Rattle.rules.specs.Frames.{Frame, isErased, corner}
 use Rattle.rules.specs.Bits.{frameOf, bytesOf, spareOnes}
-use Rattle.rules.specs.Numbers.{frameBytes, frameFor, encodeNumber}
+use Rattle.rules.specs.Numbers.{frameBytes, frameFor, encodeNumber, dataBytes}
 use Rattle.rules.proofs.Laws.CodeLaws.{Sound}
 use Rattle.rules.proofs.Laws.SmallCode.{sound-small}
 use Rattle.rules.proofs.Laws.Shape.{take-tab, corner-square, frameOf-square}
 use Rattle.rules.proofs.Laws.CheckLaws.{codeword-checks}
 use Rattle.rules.proofs.Laws.FrameLaws.{frame-rows}
-use Rattle.rules.proofs.Laws.ErasedLaws.{allOnes, onesSquare, AllOnes, erased-ones, ones-square, ones-cells, ones-only, ones-frame, row-ones, corner-ones}
+use Rattle.rules.proofs.Laws.ErasedLaws.{onesWord, onesSquare, AllOnes, erased-ones, ones-square, ones-cells, ones-only, ones-frame, row-ones, corner-ones}
 use Rattle.rules.proofs.Laws.PackLaws.{bytesOf-length, frame-of-bytes, bytes-of-frame, spares-of-bytes}
-use Rattle.rules.proofs.Laws.NumberLaws.{encode-erased}
+use Rattle.rules.proofs.Laws.NumberLaws.{Sized, encode-accepts, encode-erased}
 use Rattle.rules.proofs.Laws.OneOfLaws.{and-both}
 use Rattle.rules.proofs.Laws.Computing.{computing}
 use Rattle.rules.proofs.Promises.Encoding.{Encoded, encoding}
@@ -36,17 +36,22 @@ abbrev pub OnesPromise : Code → Type 0
 OnesPromise code =
     (n : ℕ) (input : List ℕ) → code .shortest ≤ n
     → (isErased n (frameFor code n input) ≡ true)
-    ↔ ((isCodeword code n (allOnes n) ≡ true) × AllOnes (dataBits code n) (frameOf (dataBits code n) input))
+    ↔ ((isCodeword code n (onesWord n) ≡ true) × AllOnes (dataBits code n) (frameOf (dataBits code n) input))
 
 -- of the small code
 pub record SmallOnes : Type 0 where
   -- such an n is 256 alone
-  pub at-256 : (n : ℕ) → 18 ≤ n → n ≤ 256 → (isCodeword smallCode n (allOnes n) ≡ true) ↔ (n ≡ 256)
+  pub at-256 : (n : ℕ) → 18 ≤ n → n ≤ 256 → (isCodeword smallCode n (onesWord n) ≡ true) ↔ (n ≡ 256)
   -- so encoding gives 10 for one message alone: 239 rows of 239 ones
   pub one-message :
       (n : ℕ) (input output : List ℕ) → ((p : ℕ) → getD input p 0 < 256)
       → (encodeNumber smallCode n input output ≡ 10)
       ↔ ((n ≡ 256) × (input ≡ bytesOf 239 (onesSquare 239)) × (length output ≡ frameBytes 256))
+  -- and 0 for every other that is of its size and has no spare bit set
+  pub others :
+      (n : ℕ) (input output : List ℕ) → ((p : ℕ) → getD input p 0 < 256)
+      → Sized smallCode n input (dataBytes smallCode n) output (frameBytes n) → spareOnes (dataBits smallCode n) input ≡ 0
+      → ¬ ((n ≡ 256) × (input ≡ bytesOf 239 (onesSquare 239))) → encodeNumber smallCode n input output ≡ 0
 
 -- ---- Data of ones
 
@@ -60,7 +65,7 @@ module _ (code : Code) (ok : Sound code) (n : ℕ) (input : List ℕ) (le : code
   made : Encoded code n (frameOf k input)
   made = encoding code ok n (frameOf k input) le (frameOf-square k input)
 
-  from-ones : isErased n f ≡ true → (isCodeword code n (allOnes n) ≡ true) × AllOnes k (frameOf k input)
+  from-ones : isErased n f ≡ true → (isCodeword code n (onesWord n) ≡ true) × AllOnes k (frameOf k input)
   from-ones e =
       let all = erased-ones n f .0 e in
       let first : 0 < n = omega (arith, ok .room) in (
@@ -68,7 +73,7 @@ module _ (code : Code) (ok : Sound code) (n : ℕ) (input : List ℕ) (le : code
         rw (← made .holds) (corner-ones k n f (omega arith) all),
       )
 
-  to-ones : isCodeword code n (allOnes n) ≡ true → AllOnes k (frameOf k input) → isErased n f ≡ true
+  to-ones : isCodeword code n (onesWord n) ≡ true → AllOnes k (frameOf k input) → isErased n f ≡ true
   to-ones c all =
       let s = ones-square n in
       let e : onesSquare n ≡ f =
@@ -87,8 +92,8 @@ nonzero : ℕ → ℕ → Bool
 nonzero zero r = true
 nonzero (suc m) r = not (eqb r 0) && nonzero m (shift 16 g r true)
 
-nonzero-at : (m r i : ℕ) → nonzero m r ≡ true → i < m → register 16 g r (allOnes i) ≢ 0
-unfolding nonzero register allOnes
+nonzero-at : (m r i : ℕ) → nonzero m r ≡ true → i < m → register 16 g r (onesWord i) ≢ 0
+unfolding nonzero register onesWord
 nonzero-at zero r i h l = absurd (omega arith)
 nonzero-at (suc m) r zero h l =
     let t = and-both (not (eqb r 0)) (nonzero m (shift 16 g r true)) h in
@@ -106,29 +111,29 @@ first-one : shift 16 g 0 true ≡ 1
 unfolding computing
 first-one = refl
 
-at-longest : isCodeword smallCode 256 (allOnes 256) ≡ true
-unfolding computing allOnes
+at-longest : isCodeword smallCode 256 (onesWord 256) ≡ true
+unfolding computing onesWord
 at-longest = refl
 
 -- fewer than 255 ones leave a remainder
-leaves : (m : ℕ) → m < 254 → register 16 g 0 (allOnes (suc m)) ≢ 0
-unfolding allOnes register
+leaves : (m : ℕ) → m < 254 → register 16 g 0 (onesWord (suc m)) ≢ 0
+unfolding onesWord register
 leaves m h e =
     nonzero-at 254 1 m tested h
-    (ap (λ (r : ℕ). register 16 g r (allOnes m)) (sym first-one) ∙ ap (register 16 g 0) (sym (tab-suc m (λ j. true))) ∙ e)
+    (ap (λ (r : ℕ). register 16 g r (onesWord m)) (sym first-one) ∙ ap (register 16 g 0) (sym (tab-suc m (λ j. true))) ∙ e)
 
-no-remainder : (n : ℕ) → 2 ≤ n → isCodeword smallCode n (allOnes n) ≡ true → register 16 g 0 (allOnes (suc (n - 2))) ≡ 0
-unfolding checks remainder allOnes
+no-remainder : (n : ℕ) → 2 ≤ n → isCodeword smallCode n (onesWord n) ≡ true → register 16 g 0 (onesWord (suc (n - 2))) ≡ 0
+unfolding checks remainder onesWord
 no-remainder n h c =
-    let z = codeword-checks smallCode n (allOnes n) c in
+    let z = codeword-checks smallCode n (onesWord n) c in
     let e : n - 1 ≡ suc (n - 2) = omega arith in
-    let r : register 16 g 0 (take (n - 1) (allOnes n)) ≡ 0 = omega (arith, z) in
-    ap (λ (k : ℕ). register 16 g 0 (allOnes k)) (sym e) ∙ ap (register 16 g 0) (sym (take-tab (n - 1) n (λ j. true) (omega arith))) ∙ r
+    let r : register 16 g 0 (take (n - 1) (onesWord n)) ≡ 0 = omega (arith, z) in
+    ap (λ (k : ℕ). register 16 g 0 (onesWord k)) (sym e) ∙ ap (register 16 g 0) (sym (take-tab (n - 1) n (λ j. true) (omega arith))) ∙ r
 
-one-length : (n : ℕ) → 18 ≤ n → n ≤ 256 → (isCodeword smallCode n (allOnes n) ≡ true) ↔ (n ≡ 256)
+one-length : (n : ℕ) → 18 ≤ n → n ≤ 256 → (isCodeword smallCode n (onesWord n) ≡ true) ↔ (n ≡ 256)
 one-length n lo hi = (λ c. go c (decLt n 256), λ e. rw e at-longest)
   where
-    go : isCodeword smallCode n (allOnes n) ≡ true → Dec (n < 256) → n ≡ 256
+    go : isCodeword smallCode n (onesWord n) ≡ true → Dec (n < 256) → n ≡ 256
     go c (yes l) = absurd (leaves (n - 2) (omega arith) (no-remainder n (omega arith) c))
     go c (no l) = omega (arith, l)
 
@@ -163,5 +168,16 @@ one-message-here n input output bytes = (there, λ p. back (p .0) (p .1) (p .2))
           to-ones smallCode sound-small 256 input (omega arith) at-longest (rw framed (ones-cells 239)),
         ))
 
+others-here :
+    (n : ℕ) (input output : List ℕ) → ((p : ℕ) → getD input p 0 < 256)
+    → Sized smallCode n input (dataBytes smallCode n) output (frameBytes n) → spareOnes (dataBits smallCode n) input ≡ 0
+    → ¬ ((n ≡ 256) × (input ≡ bytesOf 239 (onesSquare 239))) → encodeNumber smallCode n input output ≡ 0
+others-here n input output bytes f z other = go (isErased n (frameFor smallCode n input)) refl
+  where
+    go : (b : Bool) → isErased n (frameFor smallCode n input) ≡ b → encodeNumber smallCode n input output ≡ 0
+    go true e =
+        let m = one-message-here n input output bytes .0 (encode-erased smallCode n input output .1 (f, z, e)) in absurd (other (m .0, m .1))
+    go false e = encode-accepts smallCode n input output .1 (f, z, e)
+
 pub small-ones : SmallOnes
-small-ones = record { at-256 = one-length; one-message = one-message-here }
+small-ones = record { at-256 = one-length; one-message = one-message-here; others = others-here }

@@ -14,22 +14,21 @@ use Rattle.rules.specs.Codes.{Code, radius, dataBits, smallCode}
 use Rattle.rules.specs.Words.{isCodeword}
 use Rattle.rules.specs.Frames.{Frame, Square, row, cell, isFrame, corner}
 use Rattle.rules.specs.Bits.{frameOf, bytesOf}
-use Rattle.rules.specs.Passes.{differences, Outcome, decoded}
-use Rattle.rules.specs.Numbers.{mostAllowed, frameBytes, frameFor, encodeNumber, erased, undecoded, told, handedOut, number, decodeRefusal, decodeSaid, decodeOutput}
+use Rattle.rules.specs.Passes.{differences, decoded}
+use Rattle.rules.specs.Numbers.{mostAllowed, frameBytes, frameFor, encodeNumber, erased, number, decodeSaid}
 use Rattle.rules.specs.Damage.{spoilt}
-use Rattle.rules.proofs.Laws.CodeLaws.{Sound}
+use Rattle.rules.proofs.Laws.CodeLaws.{Sound, Mends}
 use Rattle.rules.proofs.Laws.SmallCode.{sound-small}
 use Rattle.rules.proofs.Laws.Shape.{square-tab, corner-square, frameOf-square}
-use Rattle.rules.proofs.Laws.ErasedLaws.{onesSquare, AllOnes, ones-square, ones-cells, ones-frame, erased-ones, not-erased, not-ones}
+use Rattle.rules.proofs.Laws.ErasedLaws.{onesWord, onesSquare, AllOnes, ones-square, ones-cells, ones-frame, erased-ones, not-erased, not-ones}
 use Rattle.rules.proofs.Laws.PackLaws.{bytesOf-length, frame-of-bytes, spares-of-bytes}
-use Rattle.rules.proofs.Laws.NumberLaws.{encode-accepts, decode-accepts, decode-erased, handed, at-zero}
+use Rattle.rules.proofs.Laws.NumberLaws.{Sized, encode-accepts, decode-erased}
 use Rattle.rules.proofs.Laws.Computing.{computing}
 use Rattle.rules.proofs.Promises.Distance.{mends-small}
 use Rattle.rules.proofs.Promises.Encoding.{encoding}
 use Rattle.rules.proofs.Promises.RoundTrip.{accepted, encoded, is-written}
-use Rattle.rules.proofs.Promises.Erased.{small-ones}
 use Rattle.rules.proofs.Promises.RepairFrames.{Restored, repairs-frames, counts-damage}
-use Rattle.rules.proofs.Promises.Repair.{Written, Back, NotErased, BackAt, success-zero}
+use Rattle.rules.proofs.Promises.Repair.{Written, Spoiled, Back, NotErased, BackAt, frame-back}
 
 -- a codeword of 80 bits: ones but for places 2 and 21
 abbrev hasOne : ℕ → Bool
@@ -54,7 +53,7 @@ pub record Premise : Type 0 where
   -- a written frame
   pub encoded : Written smallCode 80 written
   -- 78 rows with two wrong bits, and two that are lost, so it is of the class; 316 bits are wrong
-  pub two : count 80 (λ i. eqb (differ (row products i) (row (onesSquare 80) i)) 2) ≡ 78
+  pub two : count 80 (λ i. eqb (differ (row (frameOf 80 written) i) (row (frameOf 80 received) i)) 2) ≡ 78
   pub rows : spoilt 2 80 (frameOf 80 written) (frameOf 80 received) ≡ 2
   pub bits : differences 80 (frameOf 80 written) (frameOf 80 received) ≡ 316
   -- the passes would give it back
@@ -66,15 +65,14 @@ pub record Premise : Type 0 where
   -- so that the demand fails where nothing is asked of what was received
   pub needed : ¬ BackAt smallCode (radius smallCode) (λ n received. Unit {0})
 
--- at n = 256 the square of ones is a frame, though none that was written: a block that is erased but for bits within the class is
--- repaired to it, with number 0
-pub record NearlyErased : Type 0 where
+-- where the word of ones is a codeword, the square of ones is a frame, though none that was written: a block that is erased but for bits
+-- within the class is repaired to it, with number 0. The small code has such words at n = 256
+pub record NearlyErased (code : Code) : Type 0 where
   pub handed-out :
-      (allowance : ℕ) (received output : List ℕ) → 2 ≤ allowance → allowance ≤ mostAllowed → length received ≡ frameBytes 256
-      → length output ≡ frameBytes 256 → NotErased 256 received → spoilt 2 256 (onesSquare 256) (frameOf 256 received) ≤ 2
-      → (number (decodeSaid smallCode 256 allowance received output) ≡ 0)
-      × (decodeOutput smallCode 256 allowance received output ≡ bytesOf 256 (onesSquare 256))
-  pub not-written : ¬ Written smallCode 256 (bytesOf 256 (onesSquare 256))
+      (n allowance : ℕ) (received output : List ℕ) → Sized code n received (frameBytes n) output (frameBytes n) → 2 ≤ allowance → allowance ≤ mostAllowed
+      → isCodeword code n (onesWord n) ≡ true → Spoiled code n (bytesOf n (onesSquare n)) received → NotErased n received
+      → Back code n allowance (bytesOf n (onesSquare n)) received output
+  pub not-written : (n : ℕ) → ¬ Written code n (bytesOf n (onesSquare n))
 
 -- ---- Every frame but that of ones can be written
 
@@ -115,7 +113,7 @@ computed :
     (isCodeword smallCode 80 holed ≡ true) × (isFrame smallCode 80 products ≡ true) × (cell products 2 2 ≡ false)
     × (count 80 (λ i. eqb (differ (row products i) (row (onesSquare 80) i)) 2) ≡ 78)
     × (spoilt 2 80 products (onesSquare 80) ≡ 2) × (differences 80 products (onesSquare 80) ≡ 316)
-unfolding computing holed products onesSquare
+unfolding computing holed products onesSquare onesWord
 computed = (refl, refl, refl, refl, refl, refl)
 
 written-is : frameOf 80 written ≡ products
@@ -164,7 +162,7 @@ pub premise : Premise
 premise = record {
   codeword = computed .0;
   encoded = encoded-here;
-  two = computed .3;
+  two = rw (written-is, received-is) (computed .3);
   rows = rows-here;
   bits = bits-here;
   passes = rw (written-is, received-is) passes-here;
@@ -172,42 +170,22 @@ premise = record {
   needed = needed-here;
 }
 
--- ---- At n = 256
+-- ---- The frame of ones
 
-nearly :
-    (allowance : ℕ) (received output : List ℕ) → 2 ≤ allowance → allowance ≤ mostAllowed → length received ≡ frameBytes 256
-    → length output ≡ frameBytes 256 → NotErased 256 received → spoilt 2 256 (onesSquare 256) (frameOf 256 received) ≤ 2
-    → (number (decodeSaid smallCode 256 allowance received output) ≡ 0)
-    × (decodeOutput smallCode 256 allowance received output ≡ bytesOf 256 (onesSquare 256))
-unfolding decodeSaid decodeOutput
-nearly a received output lo hi taken lent seen d =
-    let r : ℕ = decodeRefusal smallCode 256 a received output in
-    let o : Outcome = decoded smallCode 256 a (frameOf 256 received) in
-    let z : r ≡ 0 =
-    decode-accepts smallCode 256 a received output .1
-    (record { from = omega arith; upTo = omega arith; taken = taken; lent = lent }, (omega arith, hi), not-erased 256 (frameOf 256 received) seen) in
-    let b : Restored (onesSquare 256) o =
-    repairs-frames smallCode mends-small 256 a (omega arith) (omega arith) lo (onesSquare 256) (frameOf 256 received) (ones-square 256)
-    (frameOf-square 256 received) (ones-frame smallCode 256 (small-ones .at-256 256 (omega arith) (omega arith) .1 refl)) d in
-    let e : number (told o) ≡ 0 = success-zero o (b .success) in (
-      ap number (at-zero r (told o) (undecoded r) z) ∙ e,
-      at-zero r (handedOut 256 received o) output z
-          ∙ handed 256 received o
-          ∙ at-zero (number (told o)) (bytesOf 256 (o .last)) received e
-          ∙ ap (bytesOf 256) (b .frame),
-    )
+unwritten : (code : Code) (ok : Sound code) (n : ℕ) → ¬ Written code n (bytesOf n (onesSquare n))
+unwritten code ok n w =
+    let f : Frame = frameFor code n (w .input) in
+    let same : bytesOf n f ≡ bytesOf n (onesSquare n) = sym (is-written code ok n (w .input) (w .blank) (w .accepts)) ∙ w .writes in
+    let e : f ≡ onesSquare n =
+    sym (frame-of-bytes n f (encoded code ok n (w .input) (w .blank) (w .accepts) .square))
+    ∙ ap (frameOf n) same
+    ∙ frame-of-bytes n (onesSquare n) (ones-square n) in
+    not-ones n f (accepted code ok n (w .input) (w .blank) (w .accepts) .2) (rw e (ones-cells n))
 
-unwritten : ¬ Written smallCode 256 (bytesOf 256 (onesSquare 256))
-unwritten w =
-    let made = encoded smallCode sound-small 256 (w .input) (w .blank) (w .accepts) in
-    let same : bytesOf 256 (frameFor smallCode 256 (w .input)) ≡ bytesOf 256 (onesSquare 256) =
-    sym (is-written smallCode sound-small 256 (w .input) (w .blank) (w .accepts)) ∙ w .writes in
-    let e : frameFor smallCode 256 (w .input) ≡ onesSquare 256 =
-    sym (frame-of-bytes 256 (frameFor smallCode 256 (w .input)) (made .square))
-    ∙ ap (frameOf 256) same
-    ∙ frame-of-bytes 256 (onesSquare 256) (ones-square 256) in
-    not-ones 256 (frameFor smallCode 256 (w .input)) (accepted smallCode sound-small 256 (w .input) (w .blank) (w .accepts) .2)
-    (rw e (ones-cells 256))
-
-pub nearly-erased : NearlyErased
-nearly-erased = record { handed-out = nearly; not-written = unwritten }
+pub nearly-erased : (code : Code) (able : Mends code) → NearlyErased code
+nearly-erased code able = record {
+  handed-out = λ n a received output k lo hi c s seen.
+      frame-back code able n a (onesSquare n) received output k lo hi (ones-square n) (ones-frame code n c)
+      (rw (frame-of-bytes n (onesSquare n) (ones-square n)) at (s .1)) seen;
+  not-written = unwritten code (able .sound);
+}

@@ -36,7 +36,7 @@ use Rattle.rules.specs.Numbers.{
 use Rattle.rules.specs.Damage.{spoilt, wrongBits}
 use Rattle.rules.proofs.Laws.CodeLaws.{Sound, Mends}
 use Rattle.rules.proofs.Laws.Shape.{word-ext, transposed-row, frameOf-square, frameOf-row, frameOf-cell, wordOf-length, wordOf-bit}
-use Rattle.rules.proofs.Laws.ErasedLaws.{allOnes, AllOnes, not-erased, not-ones, ones-of-row, ones-of-column}
+use Rattle.rules.proofs.Laws.ErasedLaws.{onesWord, AllOnes, not-erased, not-ones, ones-of-row, ones-of-column}
 use Rattle.rules.proofs.Laws.PackLaws.{spare-free}
 use Rattle.rules.proofs.Laws.NumberLaws.{Sized, decode-accepts, decode-refused, undecoded-number, handed, told-success, told-both, at-zero}
 use Rattle.rules.proofs.Promises.Encoding.{Encoded}
@@ -76,10 +76,10 @@ Agree n s s′ = (i j : ℕ) → i < n → j < n → bitAt s (i * stride n + j) 
 abbrev pub NotErased : ℕ → List ℕ → Type 0
 NotErased n received = ¬ AllOnes n (frameOf n received)
 
--- a frame with at most `rows` spoiled rows comes back, whatever the allowance from two on, if what was received is as the premise asks
+-- a frame with at most `rows` spoiled rows comes back, whatever the allowance from two on, if what was received is as is asked
 abbrev pub BackAt : Code → ℕ → (ℕ → List ℕ → Type 0) → Type 0
-BackAt code rows Premise =
-    (n allowance : ℕ) (written received output : List ℕ) → Written code n written → SpoiledAt code rows n written received → Premise n received
+BackAt code rows Asked =
+    (n allowance : ℕ) (written received output : List ℕ) → Written code n written → SpoiledAt code rows n written received → Asked n received
     → 2 ≤ allowance → allowance ≤ mostAllowed → length output ≡ frameBytes n → Back code n allowance written received output
 
 pub record RepairPromise (code : Code) : Type 0 where
@@ -95,7 +95,7 @@ pub record RepairPromise (code : Code) : Type 0 where
   -- at an n at which the word of ones is a codeword,
   pub ones-codeword :
       (n : ℕ) (written received : List ℕ) → Written code n written → Spoiled code n written received
-      → isCodeword code n (allOnes n) ≡ true → NotErased n received
+      → isCodeword code n (onesWord n) ≡ true → NotErased n received
   -- with fewer wrong bits than rows,
   pub few-seen :
       (n : ℕ) (written received : List ℕ) → Written code n written → Spoiled code n written received
@@ -138,7 +138,7 @@ pub record RepairPromise (code : Code) : Type 0 where
 
 -- ---- The proof
 
-pub success-zero : (o : Outcome) → Success o → number (told o) ≡ 0
+success-zero : (o : Outcome) → Success o → number (told o) ≡ 0
 success-zero o (inl q) = ap (λ e. number (ended e (o .passes) (o .bits) (o .rows) (o .columns))) q
 success-zero o (inr q) = ap (λ e. number (ended e (o .passes) (o .bits) (o .rows) (o .columns))) q
 
@@ -205,7 +205,7 @@ module _
   written-whole : isFrame code n (frameOf n written) ≡ true
   written-whole = ap (isFrame code n) (is-the-frame code ok n written w) ∙ whole code ok n written w
 
-  at-codeword : isCodeword code n (allOnes n) ≡ true → ⊥
+  at-codeword : isCodeword code n (onesWord n) ≡ true → ⊥
   at-codeword c =
       let k = sized code ok n written w in
       some-zero code ok n written w
@@ -223,6 +223,18 @@ module _
       at-codeword
       (ones-of-column code n (frameOf n written) (frameOf n received) written-whole all j l (same-column n written received j l same))
 
+-- a success hands out its frame
+success-output :
+    (code : Code) (n a : ℕ) (received output : List ℕ) → decodeRefusal code n a received output ≡ 0
+    → number (told (decoded code n a (frameOf n received))) ≡ 0
+    → decodeOutput code n a received output ≡ bytesOf n (decoded code n a (frameOf n received) .last)
+unfolding decodeOutput
+success-output code n a received output z e =
+    let o : Outcome = decoded code n a (frameOf n received) in
+    at-zero (decodeRefusal code n a received output) (handedOut n received o) output z
+    ∙ handed n received o
+    ∙ at-zero (number (told o)) (bytesOf n (o .last)) received e
+
 -- a success with the written frame, and the count
 module _ (code : Code) (able : Mends code) (n a : ℕ) (written received output : List ℕ) (w : Written code n written) (s : Spoiled code n written received) where
   f : Frame
@@ -237,18 +249,14 @@ module _ (code : Code) (able : Mends code) (n a : ℕ) (written received output 
   counts-here :
       r ≡ 0 → number (told o) ≡ 0
       → (decodeOutput code n a received output ≡ written) × (figuresOf (told o) .bits ≡ wrongBits n written received)
-  unfolding decodeOutput f
+  unfolding f
   counts-here z e =
       let k = sized code (able .sound) n written w in
       let b =
       counts-damage code able n a (k .from) (k .upTo) (decode-accepts code n a received output .0 z .1 .0) f (frameOf n received)
       (square code (able .sound) n written w) (frameOf-square n received) (whole code (able .sound) n written w)
       (in-class code (able .sound) n written w received s) (told-success o e) in (
-        at-zero r (handedOut n received o) output z
-            ∙ handed n received o
-            ∙ at-zero (number (told o)) (bytesOf n (o .last)) received e
-            ∙ ap (bytesOf n) (b .0)
-            ∙ sym (is-bytes code (able .sound) n written w),
+        success-output code n a received output z e ∙ ap (bytesOf n) (b .0) ∙ sym (is-bytes code (able .sound) n written w),
         told-both o .1 ∙ b .1 ∙ ap (λ x. differences n x (frameOf n received)) (sym (is-the-frame code (able .sound) n written w)),
       )
 
@@ -269,26 +277,33 @@ module _ (code : Code) (able : Mends code) (n a : ℕ) (written received output 
           (k .0, ap (λ d. figuresOf d .bits) said ∙ k .1)
       go (no z) = absurd (z (sym (ap number (decode-refused code n a received output z .0) ∙ undecoded-number r) ∙ e))
 
-back-here : (code : Code) (able : Mends code) → BackAt code (radius code) NotErased
+-- any frame comes back, also one that encoding does not write
+pub frame-back :
+    (code : Code) (able : Mends code) (n a : ℕ) (f : Frame) (received output : List ℕ) → Sized code n received (frameBytes n) output (frameBytes n)
+    → 2 ≤ a → a ≤ mostAllowed → Square n f → isFrame code n f ≡ true → spoilt (radius code) n f (frameOf n received) ≤ radius code
+    → NotErased n received → Back code n a (bytesOf n f) received output
 unfolding decodeSaid
-back-here code able n a written received output w s seen lo hi lent =
-    let g : Frame = the-frame code (able .sound) n written w in
+frame-back code able n a f received output k lo hi sf whole d seen =
     let p : Outcome = decoded code n a (frameOf n received) in
     let q : ℕ = decodeRefusal code n a received output in
-    let k = sized code (able .sound) n written w in
-    let z : q ≡ 0 =
-    decode-accepts code n a received output .1
-    (record { from = k .from; upTo = k .upTo; taken = s .0; lent = lent }, (omega arith, hi), not-erased n (frameOf n received) seen) in
-    let b : Restored g p =
-    repairs-frames code able n a (k .from) (k .upTo) lo g (frameOf n received) (square code (able .sound) n written w) (frameOf-square n received)
-    (whole code (able .sound) n written w) (in-class code (able .sound) n written w received s) in
+    let z : q ≡ 0 = decode-accepts code n a received output .1 (k, (omega arith, hi), not-erased n (frameOf n received) seen) in
+    let b : Restored f p = repairs-frames code able n a (k .from) (k .upTo) lo f (frameOf n received) sf (frameOf-square n received) whole d in
     let e : number (told p) ≡ 0 = success-zero p (b .success) in
     let said : decodeSaid code n a received output ≡ told p = at-zero q (told p) (undecoded q) z in
     record {
       zero = ap number said ∙ e;
-      bytes = counts-here code able n a written received output w s z e .0;
+      bytes = success-output code n a received output z e ∙ ap (bytesOf n) (b .frame);
       few = rw (ap (λ d. figuresOf d .passes) said ∙ told-both p .0) (b .few);
     }
+
+back-here : (code : Code) (able : Mends code) → BackAt code (radius code) NotErased
+back-here code able n a written received output w s seen lo hi lent =
+    let ok = able .sound in
+    let k = sized code ok n written w in
+    rw (is-bytes code ok n written w)
+    (frame-back code able n a (the-frame code ok n written w) received output
+    (record { from = k .from; upTo = k .upTo; taken = s .0; lent = lent }) lo hi (square code ok n written w) (whole code ok n written w)
+    (in-class code ok n written w received s) seen)
 
 apart-here :
     (code : Code) (able : Mends code) (n : ℕ) (written written′ received received′ : List ℕ) → Written code n written → Written code n written′ → written ≢ written′

@@ -15,7 +15,7 @@ use Rattle.rules.specs.Damage.{spoilt}
 use Rattle.rules.proofs.Laws.CodeLaws.{Mends}
 use Rattle.rules.proofs.Laws.Shape.{transposed-square, transposed-twice}
 use Rattle.rules.proofs.Laws.FrameLaws.{frame-rows, frame-columns}
-use Rattle.rules.proofs.Laws.ErasedLaws.{allOnes, AllOnes, ones-only, ones-frame}
+use Rattle.rules.proofs.Laws.ErasedLaws.{onesWord, AllOnes, ones-only, ones-frame}
 use Rattle.rules.proofs.Promises.Answers.{answers}
 use Rattle.rules.proofs.Promises.Passes.{passes-promise}
 use Rattle.rules.proofs.Laws.PassLaws.{decoded-clean, decoded-passes, step-repaired, step-on, step-spent, pass-one, pass-two, passRows-square}
@@ -153,7 +153,7 @@ counts-damage code able n a h b lo f r sf sr k d s =
 -- spoiled to all ones, where such a word is a codeword, it was all ones
 pub spoiled-ones :
     (code : Code) (able : Mends code) (n : ℕ) → code .shortest ≤ n → n ≤ code .longest → (f r : Frame) → Square n f → Square n r → isFrame code n f ≡ true
-    → spoilt (radius code) n f r ≤ radius code → isCodeword code n (allOnes n) ≡ true → AllOnes n r → AllOnes n f
+    → spoilt (radius code) n f r ≤ radius code → isCodeword code n (onesWord n) ≡ true → AllOnes n r → AllOnes n f
 spoiled-ones code able n h b f r sf sr k d c all =
     let e : isFrame code n r ≡ true = ap (isFrame code n) (ones-only n r sr all) ∙ ones-frame code n c in
     subst (AllOnes n) (received-whole code able n h b f r sf sr k d e) all
