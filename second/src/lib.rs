@@ -46,7 +46,7 @@ pub use answer::{Answer, Ending, Refusal, Report};
 
 use bits::{bytes_for, has_spare_bits, Word};
 use matrix::Matrix;
-use word::{Tables, CHECK_BITS, LONGEST, SHORTEST};
+use word::{Tables, CHECK_BITS, LONGEST, PARITY, SHORTEST};
 
 /// The most passes a caller may allow.
 const MOST_PASSES: usize = 32;
@@ -154,6 +154,14 @@ impl Code {
             _ => start.corrected(answer).pack(n, word),
         }
         Ok(answer)
+    }
+
+    /// The answer to a word of `n` bits of which this is the remainder, and
+    /// whose number of ones is odd or not.
+    pub fn answer_to(&self, n: usize, remainder: u16, odd: bool) -> Result<Answer, Refusal> {
+        check_word_length(n)?;
+        let parity = if odd { PARITY } else { 0 };
+        Ok(self.tables.answer_to(n, parity | u32::from(remainder)))
     }
 
     /// Writes to `word` the codeword of `n` bits that begins with the n − 17

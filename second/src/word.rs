@@ -15,7 +15,7 @@ const G: u32 =
     1 << 14 | 1 << 13 | 1 << 11 | 1 << 10 | 1 << 9 | 1 << 8 | 1 << 6 | 1 << 5 | 1 << 1 | 1 << 0;
 
 /// The parity among a word's checks. The 16 bits below it are the remainder.
-const PARITY: u32 = 1 << 16;
+pub const PARITY: u32 = 1 << 16;
 
 /// What is wrong with a word that has certain checks. A place is given by its
 /// distance from the word's last bit, which makes it the same for every n.
@@ -73,9 +73,14 @@ impl Tables {
     }
 
     pub fn answer(&self, n: usize, word: &Word) -> Answer {
+        self.answer_to(n, self.checks(n, word))
+    }
+
+    /// The answer to a word of n bits with these checks.
+    pub fn answer_to(&self, n: usize, checks: u32) -> Answer {
         // None for a place that was cut away.
         let place = |distance: u8| (n - 1).checked_sub(distance.into());
-        match self.patterns[self.checks(n, word) as usize] {
+        match self.patterns[checks as usize] {
             Pattern::Nothing => Answer::Codeword,
             Pattern::One(distance) => match place(distance) {
                 Some(place) => Answer::OnePlace(place),

@@ -2,15 +2,16 @@
 use mathlib.Core.Path.{_≡_}
 use mathlib.Core.List.{List}
 use Prim.Native.Nat.{ℕ, _+_, _*_, _<_}
-use lib.Dec.{eqb}
+use lib.Dec.{eqb, leb}
 use lib.ListN.{length}
 use Rattle.rules.specs.Codes.{smallCode}
-use Rattle.rules.specs.Numbers.{pick, wordSaid, wordOutput, rowPart}
+use Rattle.rules.specs.Numbers.{pick, outside, wordSaid, wordOutput, rowPart}
+use Rattle.laws.specs.Located.{checksEnd, located}
 use Rattle.word.specs.declared.locate.Answer.{Answer}
 use Rattle.word.specs.declared.locate.Answer.the-variants.{Codeword, OnePlace, TwoPlaces, Beyond}
 use Rattle.word.specs.declared.decode.Said.{Said}
 use Rattle.word.specs.declared.decode.Said.the-variants.{Refused, Answered}
-use Rattle.word.specs.Said.{saidOf}
+use Rattle.word.specs.Said.{answerOf, saidOf}
 
 -- bits 0..7 the number, 8..15 how many places were changed, 16..31 the first, 32..47 the second
 abbrev pub packedAnswer : Answer → ℕ
@@ -22,6 +23,10 @@ packedAnswer Beyond = 9
 abbrev pub packedWord : Said → ℕ
 packedWord (Refused r) = r
 packedWord (Answered a) = packedAnswer a
+
+-- the answer to checks alone; 1 for an n that no word has, 2 for what are no checks
+abbrev pub packedLocated : ℕ → ℕ → ℕ
+packedLocated n c = pick (outside smallCode n) 1 (pick (leb (checksEnd smallCode) c) 2 (packedAnswer (answerOf (located smallCode n c))))
 
 -- the places have room
 abbrev pub SmallAnswer : Answer → Type 0

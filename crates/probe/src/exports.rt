@@ -1,12 +1,18 @@
 // What the tests call from C and Rust beside the three functions of the host.
+use crate::pack::pack_answer;
 use crate::pack::pack_said;
 use field::log;
 use field::power;
 use frame::row::row;
 use word::decode::decode_word;
+use word::locate::locate;
+use word::sizes::outside;
 ghost use mathlib.Core.Path.{_≡_};
 ghost use Rattle.rules.specs.Field as rules;
-ghost use Rattle.probe.specs.Calls.{DecodesWordPacked, CopiesRow};
+ghost use Rattle.probe.specs.Calls.{DecodesWordPacked, CopiesRow, packedLocated};
+
+// All checks lie below it.
+const CHECKS_END: u32 = 131072;
 
 #[no_mangle]
 pub extern "C" fn probe_power(e: usize) -> u8
@@ -40,4 +46,18 @@ pub extern "C" fn probe_row(n: usize, frame: &[u8], i: usize, part: &mut [u8]) -
         bytes::copy(bytes, part);
     }
     bytes.len()
+}
+
+// The answer to checks, in the same number; 1 for an n that no word has, 2 for what are no checks.
+#[no_mangle]
+pub extern "C" fn probe_locate(n: usize, checks: u32) -> u64
+    ensures { λ r. ⌜ r ≡ packedLocated n checks ⌝ }
+{
+    if outside(n) {
+        return 1;
+    }
+    if CHECKS_END <= checks {
+        return 2;
+    }
+    pack_answer(locate(n, checks))
 }

@@ -31,7 +31,7 @@ fn two_places(p: usize, q: usize) -> u64
     TWO + p as u64 * FIRST + q as u64 * SECOND
 }
 
-fn pack_answer(a: Answer) -> u64
+pub(crate) fn pack_answer(a: Answer) -> u64
     requires { ⌜ SmallAnswer a ⌝ }
     ensures { λ r. ⌜ r ≡ packedAnswer a ⌝ }
 {

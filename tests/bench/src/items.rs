@@ -3,7 +3,7 @@
 use compare::case::{Case, Entry};
 use compare::promise::Promise;
 use second::Code;
-use shared::bits::square_bytes;
+use shared::bits::{flip_at, square_bytes};
 use shared::damage::{lose_row, wrong_bits, Loss};
 use shared::random::Random;
 use shared::written::full_frame;
@@ -16,13 +16,24 @@ pub struct Item {
     pub make: fn(&Code, &mut Random) -> (Case, Promise),
 }
 
-pub const ITEMS: [Item; 5] = [
+pub const ITEMS: [Item; 6] = [
     Item {
         name: "decode, n = 195, 40 wrong bits",
         seed: 1,
         make: |code, random| {
             decode(code, random, 195, |random, frame| {
                 wrong_bits(random, 195, frame, 40);
+            })
+        },
+    },
+    Item {
+        name: "decode, n = 195, two wrong bits in every row",
+        seed: 6,
+        make: |code, random| {
+            decode(code, random, 195, |random, frame| {
+                for i in 0..195 {
+                    random.distinct(2, 195).into_iter().for_each(|j| flip_at(195, frame, i, j));
+                }
             })
         },
     },

@@ -1,13 +1,14 @@
 //! Prints how long the proved engine and the second program take, and the ratio. A check passes where the answers are right.
 
 mod items;
+mod located;
 mod timing;
 
 use items::ITEMS;
 use second::Code;
 use shared::score::Score;
 use std::{env, fs};
-use timing::time;
+use timing::{time, Times};
 
 const WARM_UP: usize = 30;
 const FRAMES: usize = 301;
@@ -17,18 +18,26 @@ fn main() {
     println!("{:<73} {:>29}  {:>29}", "", "proved engine", "second program");
     println!("{:<73} {}", "", columns(["median us", "min..max", "median us", "min..max", "ratio"].map(String::from)));
     for item in &ITEMS {
-        match time(&code, item, WARM_UP, FRAMES) {
-            Some((proved, second)) => {
-                let medians = [proved.median(), second.median()];
-                let [ours, theirs, ratio] =
-                    [medians[0], medians[1], medians[0] / medians[1]].map(|value| format!("{:.1}", value));
-                score.count(item.name, "", &columns([ours, proved.span(), theirs, second.span(), ratio]));
-            }
-            None => score.count(item.name, "an answer is wrong", ""),
-        }
+        print(&mut score, item.name, time(&code, item, WARM_UP, FRAMES), 1);
+    }
+    for (wrong, name) in located::ITEMS {
+        print(&mut score, name, located::time(&code, wrong, WARM_UP, FRAMES), 3);
     }
     println!("{}, {}, {} frames for each line", processor(), env!("COMPILER"), FRAMES);
     score.end()
+}
+
+fn print(score: &mut Score, name: &str, times: Option<(Times, Times)>, digits: usize) {
+    match times {
+        Some((proved, second)) => {
+            let (ours, theirs) = (proved.median(), second.median());
+            let [proved_span, second_span] = [proved.span(digits), second.span(digits)];
+            let [ratio, ours, theirs] = [(ours / theirs, 1), (ours, digits), (theirs, digits)]
+                .map(|(value, digits)| format!("{:.*}", digits, value));
+            score.count(name, "", &columns([ours, proved_span, theirs, second_span, ratio]));
+        }
+        None => score.count(name, "an answer is wrong", ""),
+    }
 }
 
 fn columns([a, b, c, d, ratio]: [String; 5]) -> String {

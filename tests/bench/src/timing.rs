@@ -9,7 +9,7 @@ use std::time::Instant;
 pub struct Times(Vec<f64>);
 
 impl Times {
-    fn of(mut times: Vec<f64>) -> Times {
+    pub fn of(mut times: Vec<f64>) -> Times {
         times.sort_by(f64::total_cmp);
         Times(times)
     }
@@ -18,8 +18,8 @@ impl Times {
         self.0[self.0.len() / 2]
     }
 
-    pub fn span(&self) -> String {
-        format!("{:.1}..{:.1}", self.0[0], self.0[self.0.len() - 1])
+    pub fn span(&self, digits: usize) -> String {
+        format!("{:.*}..{:.*}", digits, self.0[0], digits, self.0[self.0.len() - 1])
     }
 }
 

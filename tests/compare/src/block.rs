@@ -124,12 +124,13 @@ impl Block<'_> {
 
     /// Puts a case to both sides. `written` is what was there before the damage, or empty.
     pub fn check(&mut self, case: Case, promise: Promise, written: &[u8]) {
-        const DIFFERENCE: [&str; 5] = [
+        const DIFFERENCE: [&str; 6] = [
             "smallest difference of Decode",
             "smallest difference of Word",
             "smallest difference of Encode",
             "smallest difference of Read",
             "smallest difference of Row",
+            "smallest difference of Locate",
         ];
         if let Some(sink) = &mut self.sink {
             let said = case.second(self.code);
@@ -170,7 +171,7 @@ impl Block<'_> {
             (_, Entry::Row) => "Row",
             (0, Entry::Encode) => "Encoded",
             (0, Entry::Read) => "Read",
-            (0, Entry::Word) => CHANGED[said.passes().min(2) as usize],
+            (0, Entry::Word | Entry::Locate) => CHANGED[said.passes().min(2) as usize],
             (number @ 1..=6, _) => REFUSED[number as usize],
             (9, _) => "NoCodeword",
             (10, _) => "Number10",

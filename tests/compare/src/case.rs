@@ -19,6 +19,7 @@ mod proved {
         ) -> u64;
         pub fn gazenohyri_read(n: usize, frame: *const u8, frame_len: usize, data: *mut u8, data_len: usize) -> u32;
         pub fn probe_word(n: usize, received: *const u8, received_len: usize, word: *mut u8, word_len: usize) -> u64;
+        pub fn probe_locate(n: usize, checks: u32) -> u64;
         pub fn probe_row(n: usize, frame: *const u8, len: usize, i: usize, part: *mut u8, part_len: usize) -> usize;
     }
 }
@@ -30,13 +31,14 @@ pub enum Entry {
     Encode,
     Read,
     Row,
+    Locate,
 }
 
 #[derive(Clone, Debug)]
 pub struct Case {
     pub entry: Entry,
     pub n: usize,
-    /// The allowance of decode, the i of row; else zero.
+    /// The allowance of decode, the i of row, the checks of locate; else zero.
     pub argument: usize,
     pub input: Vec<u8>,
     /// What the lent output holds before the call.
@@ -97,6 +99,12 @@ impl Case {
                 }
                 part.len() as u64
             }
+            Entry::Locate => match u16::try_from(self.argument / 2) {
+                Ok(remainder) => {
+                    code.answer_to(n, remainder, self.argument % 2 == 1).map_or_else(refused, pack_answer)
+                }
+                Err(_) => code.answer_to(n, 0, false).map_or_else(refused, |_| 2),
+            },
         }
     }
 
@@ -111,6 +119,7 @@ impl Case {
                 Entry::Decode => proved::gazenohyri_decode(n, i, from, len, to, to_len),
                 Entry::Word => proved::probe_word(n, from, len, to, to_len),
                 Entry::Row => proved::probe_row(n, from, len, i, to, to_len) as u64,
+                Entry::Locate => proved::probe_locate(n, i as u32),
             }
         }
     }
@@ -121,13 +130,13 @@ impl Case {
         Said { result, output, stray: false }
     }
 
-    /// As tests/host/replay.c reads it: seven numbers, the input, and the output where it is touched. No word and no row.
+    /// As tests/host/replay.c reads it: seven numbers, the input, and the output where it is touched. No word, row or checks.
     pub fn write(&self, said: &Said, sink: &mut dyn Write) -> io::Result<()> {
         let entry = match self.entry {
             Entry::Encode => 0,
             Entry::Decode => 1,
             Entry::Read => 2,
-            Entry::Word | Entry::Row => return Ok(()),
+            Entry::Word | Entry::Row | Entry::Locate => return Ok(()),
         };
         let refused = matches!(said.number(), 1..=6 | 10);
         assert!(!refused || said.output == self.output, "the second program refuses, and writes");

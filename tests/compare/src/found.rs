@@ -76,6 +76,7 @@ impl Found {
             Entry::Encode => format!("encode\tn {}\tdata {}", n, input),
             Entry::Read => format!("read\tn {}\tframe {}", n, input),
             Entry::Word => format!("word\tn {}\treceived {}", n, input),
+            Entry::Locate => format!("locate\tn {}\tchecks {}", n, case.argument),
             Entry::Row => format!("row\tn {}\ti {}\tframe {}", n, case.argument, input),
         };
         let (proved, second) = (said(case, &self.proved), said(case, &self.second));
@@ -99,7 +100,7 @@ fn said(case: &Case, said: &Said) -> String {
             field(32, 16),
             field(48, 16)
         ),
-        Entry::Word => {
+        Entry::Word | Entry::Locate => {
             let places = [field(16, 16), field(32, 16)];
             format!("number {}, places changed {:?}", said.number(), &places[..field(8, 8).min(2) as usize])
         }

@@ -158,6 +158,32 @@ pub fn random(block: &mut Block) {
     }
 }
 
+/// One in fifteen of all checks, from a random one on; and what no checks are.
+pub fn checks(block: &mut Block) {
+    let (n, every) = (block.n, if block.quick { 1025 } else { 15 });
+    let places = Places::new(n);
+    for checks in (block.random.below(every)..1 << CHECK_BITS).step_by(every) {
+        let number = match places.wrong(checks / 2, checks % 2 == 1).as_deref() {
+            None => 9,
+            Some(&[first, second]) => 2 << 8 | first << 16 | second << 32,
+            Some(&[place]) => 1 << 8 | place << 16,
+            Some(_) => 0,
+        };
+        check_located(block, n, checks, number as u64);
+    }
+    for checks in [1 << CHECK_BITS, 1 << 31, u32::MAX as usize] {
+        check_located(block, n, checks, 2);
+    }
+    for n in [0, SHORTEST - 1, LONGEST + 1, usize::MAX] {
+        check_located(block, n, 1, 1);
+    }
+}
+
+fn check_located(block: &mut Block, n: usize, checks: usize, number: u64) {
+    let case = Case::new(&mut block.random, Entry::Locate, n, Vec::new(), 0).with(checks);
+    block.check(case, Promise::Exactly(number, Vec::new()), &[]);
+}
+
 pub fn spare_bits(block: &mut Block) {
     for index in 0..block.count {
         let written = some_codeword(block);

@@ -94,12 +94,21 @@ impl Places {
 
     /// The places, two at most, after whose change the word that has just these ones is a codeword; or nothing, if it is beyond.
     pub fn near(&self, ones: &[usize]) -> Option<Vec<usize>> {
-        let sum = self.sum(ones);
-        match ones.len() % 2 {
-            1 => self.places[sum].map(|place| vec![place]),
-            _ if sum == 0 => Some(Vec::new()),
-            _ => self.other_two(ones).map(|(a, b)| vec![a.min(b), a.max(b)]),
+        self.wrong(self.sum(ones), ones.len() % 2 == 1)
+    }
+
+    /// The same, of any word with this remainder, and with an odd number of ones or an even one.
+    pub fn wrong(&self, remainder: usize, odd: bool) -> Option<Vec<usize>> {
+        match odd {
+            true => self.places[remainder].map(|place| vec![place]),
+            false if remainder == 0 => Some(Vec::new()),
+            false => self.two_of(remainder).map(|(a, b)| vec![a.min(b), a.max(b)]),
         }
+    }
+
+    /// The checks of the word that has just these ones: twice the remainder, and one if they are odd.
+    pub fn checks(&self, ones: &[usize]) -> usize {
+        2 * self.sum(ones) + ones.len() % 2
     }
 
     fn sum(&self, ones: &[usize]) -> usize {
@@ -109,10 +118,13 @@ impl Places {
     /// The two places that make a codeword of six ones out of these four, if there are any. If not,
     /// no codeword is within two of the four: none but zero has fewer ones than six.
     pub fn other_two(&self, four: &[usize]) -> Option<(usize, usize)> {
-        let sum = self.sum(four);
-        (0..self.n).find_map(|fifth| {
-            let sixth = self.places[sum ^ self.remainders[fifth]]?;
-            Some((fifth, sixth))
+        self.two_of(self.sum(four))
+    }
+
+    fn two_of(&self, remainder: usize) -> Option<(usize, usize)> {
+        (0..self.n).find_map(|first| {
+            let second = self.places[remainder ^ self.remainders[first]]?;
+            Some((first, second))
         })
     }
 }

@@ -1,0 +1,60 @@
+//! The time from a word's checks to its answer, apart from the reading of the word.
+
+use crate::timing::Times;
+use compare::case::{Case, Entry};
+use second::Code;
+use shared::division::Places;
+use shared::random::Random;
+use std::time::Instant;
+
+/// How many places are wrong.
+pub const ITEMS: [(usize, &str); 4] = [
+    (0, "locate, n = 195, a codeword"),
+    (1, "locate, n = 195, one wrong bit"),
+    (2, "locate, n = 195, two wrong bits"),
+    (4, "locate, n = 195, beyond two"),
+];
+
+const N: usize = 195;
+/// Timed together, since one is shorter than a clock's tick.
+const TOGETHER: usize = 1000;
+
+/// Times both sides on the same checks, in microseconds for each. Nothing is given if an answer is wrong.
+pub fn time(code: &Code, wrong: usize, warm_up: usize, rounds: usize) -> Option<(Times, Times)> {
+    let (mut random, places) = (Random::new(&[7, wrong as u64]), Places::new(N));
+    let (mut proved, mut second) = (Vec::new(), Vec::new());
+    for round in 0..warm_up + rounds {
+        let cases: Vec<Case> = (0..TOGETHER).map(|_| case(&mut random, &places, wrong)).collect();
+        if cases.iter().any(|case| case.proved() != case.second(code)) {
+            return None;
+        }
+        let (ours, said) = together(&cases, |case| case.call_proved(&[], &mut []));
+        let (theirs, also_said) = together(&cases, |case| case.call_second(code, &mut []));
+        // The calls that were timed did their work.
+        if said != also_said {
+            return None;
+        }
+        if round >= warm_up {
+            proved.push(ours);
+            second.push(theirs);
+        }
+    }
+    Some((Times::of(proved), Times::of(second)))
+}
+
+/// The checks of a word with so many wrong bits: four of them are more than any codeword's two.
+fn case(random: &mut Random, places: &Places, wrong: usize) -> Case {
+    loop {
+        let checks = places.checks(&random.distinct(wrong, N));
+        if wrong < 3 || places.wrong(checks / 2, checks % 2 == 1).is_none() {
+            return Case::new(random, Entry::Locate, N, Vec::new(), 0).with(checks);
+        }
+    }
+}
+
+/// The time of a call, and the sum of the answers.
+fn together(cases: &[Case], call: impl Fn(&Case) -> u64) -> (f64, u64) {
+    let start = Instant::now();
+    let sum = cases.iter().fold(0, |sum: u64, case| sum.wrapping_add(call(case)));
+    (start.elapsed().as_secs_f64() * 1e6 / TOGETHER as f64, sum)
+}
