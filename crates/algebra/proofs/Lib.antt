@@ -12,6 +12,8 @@ pub mod LogTableLaws
 pub mod RegisterField
 pub mod RegisterProduct
 pub mod PlacesIndependent
+pub mod MarkLaws
+pub mod PairLaws
 pub mod Field256Laws
 -- Tables, words, remainders
 pub mod TableLaws

@@ -15,27 +15,19 @@ use Rattle.algebra.proofs.RegisterLaws.{iter-suc}
 
 module _ (step : ℕ → ℕ) where
   -- a list that follows x begins with it, and its rest follows the next
-  first-eq : (x p : ℕ) (ps : List ℕ) (end : ℕ) → T (follows step x (p ∷ ps) end) → x ≡ p
+  first-eq : (x p : ℕ) (ps : List ℕ) → T (follows step x (p ∷ ps)) → x ≡ p
   unfolding follows
-  first-eq x p ps end h = eqb→eq x p (T-left (eqb x p) (follows step (step p) ps end) h)
+  first-eq x p ps h = eqb→eq x p (T-left (eqb x p) (follows step (step p) ps) h)
 
-  rest-follows : (x p : ℕ) (ps : List ℕ) (end : ℕ) → T (follows step x (p ∷ ps) end) → T (follows step (step x) ps end)
+  rest-follows : (x p : ℕ) (ps : List ℕ) → T (follows step x (p ∷ ps)) → T (follows step (step x) ps)
   unfolding follows
-  rest-follows x p ps end h = rw (first-eq x p ps end h) (T-right (eqb x p) (follows step (step p) ps end) h)
+  rest-follows x p ps h = rw (first-eq x p ps h) (T-right (eqb x p) (follows step (step p) ps) h)
 
-  follows-at :
-      (x : ℕ) (ps : List ℕ) (end : ℕ) → T (follows step x ps end) → (i : ℕ) → i < length ps → getD ps i 0 ≡ iter i step x
+  pub follows-at : (x : ℕ) (ps : List ℕ) → T (follows step x ps) → (i : ℕ) → i < length ps → getD ps i 0 ≡ iter i step x
   unfolding iter
-  follows-at x [] end h i hi = absurd (omega arith)
-  follows-at x (p ∷ ps) end h zero hi = sym (first-eq x p ps end h)
-  follows-at x (p ∷ ps) end h (suc i) hi =
-      follows-at (step x) ps end (rest-follows x p ps end h) i (omega arith) ∙ sym (iter-suc i step x)
-
-  follows-end : (x : ℕ) (ps : List ℕ) (end : ℕ) → T (follows step x ps end) → iter (length ps) step x ≡ end
-  unfolding iter follows
-  follows-end x [] end h = eqb→eq x end h
-  follows-end x (p ∷ ps) end h =
-      iter-suc (length ps) step x ∙ follows-end (step x) ps end (rest-follows x p ps end h)
+  follows-at x [] h i hi = absurd (omega arith)
+  follows-at x (p ∷ ps) h zero hi = sym (first-eq x p ps h)
+  follows-at x (p ∷ ps) h (suc i) hi = follows-at (step x) ps (rest-follows x p ps h) i (omega arith) ∙ sym (iter-suc i step x)
 
 inverts-at : (xs : List ℕ) (n : ℕ) (ls : List ℕ) → T (inverts xs n ls) → (i : ℕ) → i < length ls → getD xs (getD ls i 0) 0 ≡ n + i
 unfolding inverts
@@ -59,13 +51,13 @@ module _ (k c : ℕ) (powers logs : List ℕ) (t : Tables k c powers logs) where
   count-logs-eq = eqb→eq (length logs) (2 ^ suc k) (t .count-logs)
 
   pub powers-at : (i : ℕ) → i < 2 ^ suc k - 1 → getD powers i 0 ≡ iter i (turn k c) 1
-  powers-at i h = follows-at (turn k c) 1 powers 1 (t .chain) i (omega (arith, count-powers))
+  powers-at i h = follows-at (turn k c) 1 powers (t .chain) i (omega (arith, count-powers))
 
   -- one step past the last power is 1 again
   pub round : iter (2 ^ suc k - 1) (turn k c) 1 ≡ 1
   round =
       let e : 2 ^ suc k - 1 ≡ length powers = omega (arith, count-powers) in
-      ap (λ (n : ℕ). iter n (turn k c) 1) e ∙ follows-end (turn k c) 1 powers 1 (t .chain)
+      ap (λ (n : ℕ). iter n (turn k c) 1) e ∙ eqb→eq (iter (length powers) (turn k c) 1) 1 (t .closes)
 
   pub powers-logs : (x : ℕ) → 1 ≤ x → x < 2 ^ suc k → getD powers (getD logs x 0) 0 ≡ x
   powers-logs x h1 h =

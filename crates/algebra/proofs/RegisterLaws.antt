@@ -39,7 +39,7 @@ turn-additive k c a b =
     ∙ digit-scale c (a / 2 ^ k % 2) (b / 2 ^ k % 2) (omega arith) (omega arith))
     ∙ ⊕-swap (2 * a % 2 ^ suc k) (2 * b % 2 ^ suc k) (a / 2 ^ k % 2 * c) (b / 2 ^ k % 2 * c)
 
-digit-lt : (d : ℕ) {c n : ℕ} → d < 2 → c < n → d * c < n
+pub digit-lt : (d : ℕ) {c n : ℕ} → d < 2 → c < n → d * c < n
 digit-lt d {c} {n} h hc = digit-case (λ d. d * c < n) (rw zero-mul (omega arith)) (rw one-mul hc) d h
 
 pub turn-lt : (k : ℕ) {c : ℕ} → c < 2 ^ suc k → (x : ℕ) → turn k c x < 2 ^ suc k

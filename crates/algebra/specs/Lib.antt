@@ -9,4 +9,6 @@ pub mod Remainder
 pub mod Sums
 -- Fields by tables of powers and logarithms
 pub mod LogTables
+-- and places by their marks
+pub mod Marking
 pub mod Field256

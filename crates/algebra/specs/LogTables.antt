@@ -4,12 +4,12 @@ use mathlib.Core.Bool.{Bool, true, _&&_}
 use Prim.Native.Nat.{ℕ, suc, _%_, _^_}
 use lib.Dec.{T, eqb, ltb}
 use lib.ListN.{length, getD, drop}
-use Rattle.algebra.specs.Register.{turn}
+use Rattle.algebra.specs.Register.{iter, turn}
 
--- the list is x, step x, step (step x), .., and one step more is the end
-unfoldable pub follows : (ℕ → ℕ) → ℕ → List ℕ → ℕ → Bool
-follows step x [] end = eqb x end
-follows step x (p ∷ ps) end = eqb x p && follows step (step p) ps end
+-- the list is x, step x, step (step x), ..
+unfoldable pub follows : (ℕ → ℕ) → ℕ → List ℕ → Bool
+follows step x [] = true
+follows step x (p ∷ ps) = eqb x p && follows step (step p) ps
 
 -- what xs holds at the first number of the list is n, at the second n + 1, ..
 unfoldable pub inverts : List ℕ → ℕ → List ℕ → Bool
@@ -22,6 +22,7 @@ pub record Tables (k c : ℕ) (powers logs : List ℕ) : Type 0 where
   pub odd : T (eqb (c % 2) 1)
   pub count : T (eqb (suc (length powers)) (2 ^ suc k))
   pub count-logs : T (eqb (length logs) (2 ^ suc k))
-  pub chain : T (follows (turn k c) 1 powers 1)
+  pub chain : T (follows (turn k c) 1 powers)
+  pub closes : T (eqb (iter (length powers) (turn k c) 1) 1)
   pub power-of-log : T (inverts powers 1 (drop 1 logs))
   pub log-of-power : T (inverts logs 0 powers)

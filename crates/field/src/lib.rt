@@ -1,21 +1,14 @@
-// The field of 256 elements.
-mod logs;
-mod powers;
+// The tables of the field of 256 elements and of the small code, and the look-up in each. A constant is laid out anew at every use:
+// so a caller takes a table once, from its function, and lends it to the look-ups.
+pub mod halves;
+pub mod logs;
+pub mod marks;
 
-pub use logs::log;
-pub use powers::power;
 ghost use mathlib.Core.Path.{_≡_};
-ghost use Rattle.rules.specs.Field.{product};
+ghost use Prim.Native.Nat.{_<_};
 
-// The product of two elements: their logarithms add, and 0 has none.
-pub fn product(x: u8, y: u8) -> u8
-    ensures { λ r. ⌜ r ≡ product x y ⌝ }
+fn wide(x: u8) -> usize
+    ensures { λ r. ⌜ (r ≡ x) × (r < 256) ⌝ }
 {
-    if x == 0 {
-        return 0;
-    }
-    if y == 0 {
-        return 0;
-    }
-    power(log(x) + log(y))
+    x as usize
 }

@@ -1,8 +1,11 @@
 // The logarithms of the elements.
+use crate::wide;
 ghost use mathlib.Core.Path.{_≡_};
-ghost use Rattle.rules.specs.Field.{logarithm};
+ghost use Prim.Native.Nat.{_<_};
+ghost use Rattle.algebra.specs.Marking.{order, logAt};
+ghost use Rattle.algebra.specs.Field256.{smallMarking};
 
-// The exponent of each element; entry 0 is unused.
+// The exponent below 255 of each element but 0, which has none, and 0 for that.
 const LOGS: [u8; 256] = [
     0,
     0,
@@ -262,15 +265,15 @@ const LOGS: [u8; 256] = [
     175,
 ];
 
-fn wide(x: u8) -> usize
-    ensures { λ r. ⌜ r ≡ x ⌝ }
+pub fn table() -> [u8; 256]
+    ensures { λ r. ⌜ r ≡ smallMarking .logs ⌝ }
 {
-    x as usize
+    LOGS
 }
 
-// The e below 255 with a^e = x; 0 has none, and gives 0.
-pub fn log(x: u8) -> usize
-    ensures { λ r. ⌜ r ≡ logarithm x ⌝ }
+pub fn exponent(logs: &[u8; 256], x: usize) -> usize
+    requires { ⌜ (now logs ≡ smallMarking .logs) × (x < 256) ⌝ }
+    ensures { λ r. ⌜ (r ≡ logAt smallMarking x) × (r < order smallMarking) ⌝ }
 {
-    wide(LOGS[x as usize])
+    wide(logs[x])
 }

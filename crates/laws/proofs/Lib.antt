@@ -8,7 +8,7 @@ pub mod MendLaws
 pub mod WordBytesLaws
 -- From checks to the answer, and from data to checks
 pub mod PlaceLaws
-pub mod PlaceSums
+pub mod PlaceValues
 pub mod LocatedLaws
 pub mod LocateSteps
 pub mod SettleLaws

@@ -1,203 +1,158 @@
--- The steps of the program that locates: the values at a and a^3 bit by bit, a single place, the partner of a place, place after place.
+-- The steps of the program that locates, over any marking: the mark of a remainder bit by bit, one place by its mark, and two.
 -- Assumes nothing.
-use mathlib.Core.Path.{_≡_, sym, ap, ap₂, _∙_}
-use mathlib.Core.Logic.{_≢_}
-use Prim.Native.Nat.{ℕ, suc, _+_, _*_, _-_, _/_, _%_, _≤_, _<_}
-use native.Mathlib.Nat.{zero-mul, one-mul}
+use mathlib.Core.Path.{_≡_, sym, ap, ap₂, subst, _∙_}
+use mathlib.Core.Logic.{_≢_, _⊎_, ⊎-elim}
+use Prim.Native.Nat.{ℕ, suc, _+_, _*_, _-_, _/_, _%_, _^_, _≤_, _<_}
+use native.Mathlib.Nat.{mod-lt}
 use native.Mathlib.Numerals.{add-one}
-use native.Mathlib.Decide.{ℕ-discrete}
 use native.Mathlib.Omega.{arith}
+use lib.Pow.{pow-pos}
 use Rattle.algebra.specs.Xor.{_⊕_}
 use Rattle.algebra.specs.Linear.{lin}
 use Rattle.algebra.specs.Tables.{tab, tabFrom}
-use Rattle.algebra.proofs.XorLaws.{⊕-zero, zero-⊕, ⊕-assoc, ⊕-comm, ⊕-cancel, ⊕-lt}
-use Rattle.rules.specs.Field.{power, logarithm, product}
-use Rattle.rules.proofs.Laws.FieldLaws.{power-small, power-some, power-logarithm, logarithm-power, product-powers, product-zero-right}
-use Rattle.laws.specs.Located.{valueOf, Sums}
-use Rattle.laws.specs.Search.{NoSingle, Single, Alone, AllAlone, Partner}
+use Rattle.algebra.specs.Marking.{Marking, order, aPower, powerPart, cubePart, markAt, logAt, halfAt, markOf, Reduced, Slot}
+use Rattle.algebra.proofs.XorLaws.{⊕-self, ⊕-zero, zero-⊕, ⊕-assoc, ⊕-comm, ⊕-cancel, ⊕-zero→≡}
+use Rattle.algebra.proofs.LinearLaws.{additive-zero}
+use Rattle.algebra.proofs.MarkLaws.{Fit, power-additive, cube-additive, power-at, cube-at}
+use Rattle.algebra.proofs.PairLaws.{pow-some, pow-same, log-pow, log-small, pow-log, half-found}
+use Rattle.laws.specs.Search.{NoLone, Lone, NoPair, Pair, OneOf}
 
--- ---- the two values, from the lowest bit up
+-- ---- the mark of a remainder, from the lowest bit up
 
--- what the bits of x add, where these stand for z^i, z^(i+1), ..
-rest : ℕ → ℕ → ℕ → ℕ
-rest r i x = lin (tabFrom i (16 - i) (λ j. power (r * j))) x
+module _ (m : Marking) where
+  -- what the bits of x add, where these stand for z^i, z^(i+1), ..
+  rest : ℕ → ℕ → ℕ
+  rest i x = lin (tabFrom i (suc (m .last) - i) (markAt m)) x
 
-rest-step : (r i x : ℕ) → i < 16 → rest r i x ≡ x % 2 * power (r * i) ⊕ rest r (i + 1) (x / 2)
-unfolding rest lin tabFrom
-rest-step r i x h =
-    let q : 16 - i ≡ suc (16 - (i + 1)) = omega arith in
-    ap (λ m. lin (tabFrom i m (λ j. power (r * j))) x) q
-    ∙ ap (λ m. x % 2 * power (r * i) ⊕ lin (tabFrom m (16 - (i + 1)) (λ j. power (r * j))) (x / 2)) (sym (add-one i))
+  rest-step : (i x : ℕ) → i < suc (m .last) → rest i x ≡ x % 2 * markAt m i ⊕ rest (i + 1) (x / 2)
+  unfolding rest lin tabFrom
+  rest-step i x h =
+      let q : suc (m .last) - i ≡ suc (suc (m .last) - (i + 1)) = omega arith in
+      ap (λ k. lin (tabFrom i k (markAt m)) x) q
+      ∙ ap (λ k. x % 2 * markAt m i ⊕ lin (tabFrom k (suc (m .last) - (i + 1)) (markAt m)) (x / 2)) (sym (add-one i))
 
--- s is the value at a^r of x, but for what is left of its bits from z^i on
-abbrev Upto : ℕ → ℕ → ℕ → ℕ → ℕ → Type 0
-Upto r x i left s = valueOf r x ≡ s ⊕ rest r i left
+  -- w is the mark of x, but for what is left of its bits from z^i on
+  pub Marked : ℕ → ℕ → ℕ → ℕ → Type 0
+  Marked x i left w = markOf m x ≡ w ⊕ rest i left
 
-pub Summed : ℕ → ℕ → ℕ → ℕ → ℕ → Type 0
-Summed x i left s1 s3 = Upto 1 x i left s1 × Upto 3 x i left s3
+  pub marked-none : (x : ℕ) → Marked x 0 x 0
+  unfolding Marked markOf rest tab
+  marked-none x =
+      let z : suc (m .last) - 0 ≡ suc (m .last) = omega arith in
+      sym (zero-⊕ (rest 0 x) ∙ ap (λ k. lin (tabFrom 0 k (markAt m)) x) z)
 
-upto-none : (r x : ℕ) → Upto r x 0 x 0
-unfolding valueOf rest tab
-upto-none r x = sym (zero-⊕ (lin (tabFrom 0 16 (λ j. power (r * j))) x))
+  pub marked-one :
+      (x i left w v : ℕ) → i < suc (m .last) → v ≡ markAt m i → Marked x i left w → Marked x (i + 1) (left / 2) (w ⊕ left % 2 * v)
+  unfolding Marked
+  marked-one x i left w v h q k =
+      k ∙ ap (λ y. w ⊕ y) (rest-step i left h ∙ ap (λ y. left % 2 * y ⊕ rest (i + 1) (left / 2)) (sym q))
+      ∙ sym (⊕-assoc w (left % 2 * v) (rest (i + 1) (left / 2)))
 
-upto-one :
-    (r x i left s u : ℕ) → i < 16 → left % 2 ≡ 1 → u ≡ power (r * i) → Upto r x i left s → Upto r x (i + 1) (left / 2) (s ⊕ u)
-upto-one r x i left s u h o q k =
-    let d : left % 2 * power (r * i) ≡ u = ap (λ d. d * power (r * i)) o ∙ one-mul (power (r * i)) ∙ sym q in
-    k ∙ ap (λ m. s ⊕ m) (rest-step r i left h ∙ ap (λ m. m ⊕ rest r (i + 1) (left / 2)) d)
-    ∙ sym (⊕-assoc s u (rest r (i + 1) (left / 2)))
+  pub marked-all : (x i left w : ℕ) → suc (m .last) ≤ i → Marked x i left w → w ≡ markOf m x
+  unfolding Marked rest lin tabFrom
+  marked-all x i left w h k =
+      let z : suc (m .last) - i ≡ 0 = omega arith in
+      sym (k ∙ ap (λ j. w ⊕ lin (tabFrom i j (markAt m)) left) z ∙ ⊕-zero w)
 
-upto-skip : (r x i left s : ℕ) → i < 16 → left % 2 ≢ 1 → Upto r x i left s → Upto r x (i + 1) (left / 2) s
-upto-skip r x i left s h o k =
-    let z : left % 2 ≡ 0 = omega (arith, o) in
-    let d : left % 2 * power (r * i) ≡ 0 = ap (λ d. d * power (r * i)) z ∙ zero-mul (power (r * i)) in
-    k ∙ ap (λ m. s ⊕ m) (rest-step r i left h ∙ ap (λ m. m ⊕ rest r (i + 1) (left / 2)) d ∙ zero-⊕ (rest r (i + 1) (left / 2)))
+module _ (m : Marking) (fit : Fit m) where
+  -- ---- one place: its exponent is the logarithm of the power
 
-upto-all : (r x i left s : ℕ) → 16 ≤ i → Upto r x i left s → s ≡ valueOf r x
-unfolding rest lin tabFrom
-upto-all r x i left s h k =
-    let z : 16 - i ≡ 0 = omega arith in
-    sym (k ∙ ap (λ m. s ⊕ lin (tabFrom i m (λ j. power (r * j))) left) z ∙ ⊕-zero s)
+  module _ (bound w : ℕ) (small : bound ≤ order m) where
+    lone-none : NoLone m bound w → Lone m bound w bound
+    lone-none k = record { found = λ h. absurd (omega arith); none = λ h. k }
 
-pub summed-none : (x : ℕ) → Summed x 0 x 0 0
-unfolding Summed
-summed-none x = (upto-none 1 x, upto-none 3 x)
+    power-of : (e : ℕ) → e < bound → w ≡ markAt m e → powerPart m w ≡ aPower m e
+    power-of e h q = ap (powerPart m) q ∙ power-at m fit e (omega arith)
 
-pub summed-one :
-    (x i left s1 s3 u v t1 t3 : ℕ) → i < 16 → left % 2 ≡ 1 → u ≡ power i → v ≡ power (3 * i) → t1 ≡ s1 ⊕ u → t3 ≡ s3 ⊕ v
-    → Summed x i left s1 s3 → Summed x (i + 1) (left / 2) t1 t3
-unfolding Summed
-summed-one x i left s1 s3 u v t1 t3 h o qu qv q1 q3 k = (
-  rw q1 (upto-one 1 x i left s1 u h o (qu ∙ ap power (sym (one-mul i))) (k .0)),
-  rw q3 (upto-one 3 x i left s3 v h o qv (k .1)),
-)
+    pub lone-zero : powerPart m w ≡ 0 → Lone m bound w bound
+    lone-zero z = lone-none (λ e h q. pow-some m fit e (sym (power-of e h q) ∙ z))
 
-pub summed-skip :
-    (x i left s1 s3 t1 t3 : ℕ) → i < 16 → left % 2 ≢ 1 → t1 ≡ s1 → t3 ≡ s3 → Summed x i left s1 s3
-    → Summed x (i + 1) (left / 2) t1 t3
-unfolding Summed
-summed-skip x i left s1 s3 t1 t3 h o q1 q3 k =
-    (rw q1 (upto-skip 1 x i left s1 h o (k .0)), rw q3 (upto-skip 3 x i left s3 h o (k .1)))
+    module _ (s e : ℕ) (qs : s ≡ powerPart m w) (qe : e ≡ logAt m s) where
+      lone-is : (f : ℕ) → f < bound → w ≡ markAt m f → e ≡ f
+      lone-is f h q = qe ∙ ap (logAt m) (qs ∙ power-of f h q) ∙ log-pow m fit f (omega arith)
 
-pub summed-all : (x i left s1 s3 : ℕ) → 16 ≤ i → Summed x i left s1 s3 → Sums x s1 s3
-unfolding Summed
-summed-all x i left s1 s3 h k = (upto-all 1 x i left s1 h (k .0), upto-all 3 x i left s3 h (k .1))
+      pub lone-far : bound ≤ e → Lone m bound w bound
+      lone-far k = lone-none (λ f h q. omega (arith, lone-is f h q))
 
--- ---- the single place: s3 is the cube of s1, and e is the logarithm of s1
+      pub lone-other : markAt m e ≢ w → Lone m bound w bound
+      lone-other k = lone-none (λ f h q. k (ap (markAt m) (lone-is f h q) ∙ sym q))
 
-cube : ℕ → ℕ
-cube x = product (product x x) x
+    pub lone-found : (e : ℕ) → e < bound → markAt m e ≡ w → Lone m bound w e
+    lone-found e h q = record { found = λ k. sym q; none = λ k. absurd (omega arith) }
 
-cube-power : (e : ℕ) → cube (power e) ≡ power (3 * e)
-unfolding cube
-cube-power e =
-    let q : e + e + e ≡ 3 * e = omega arith in
-    ap (λ x. product x (power e)) (product-powers e e) ∙ product-powers (e + e) e ∙ ap power q
+  -- ---- one of two places: by the half at the slot of the quotient
 
-cube-zero : cube 0 ≡ 0
-unfolding cube
-cube-zero = product-zero-right (product 0 0)
+  module _ (w : ℕ) where
+    power-of-two : (f g : ℕ) → g < f → f < order m → w ≡ markAt m f ⊕ markAt m g → powerPart m w ≡ aPower m f ⊕ aPower m g
+    power-of-two f g l h q =
+        ap (powerPart m) q ∙ power-additive m (markAt m f) (markAt m g) ∙ ap₂ _⊕_ (power-at m fit f h) (power-at m fit g (omega arith))
 
-single-none : (n s1 s3 : ℕ) → NoSingle n s1 s3 → Single n s1 s3 n
-single-none n s1 s3 k = record { last = λ h. absurd (omega arith); front = λ h. absurd (omega arith); none = λ h. k }
-
-module _ (n s1 s3 x y : ℕ) (large : 18 ≤ n) (small : n ≤ 256) (qx : x ≡ product s1 s1) (qy : y ≡ product x s1) where
-  is-cube : y ≡ cube s1
-  unfolding cube
-  is-cube = qy ∙ ap (λ m. product m s1) qx
-
-  pub not-its-cube : y ≢ s3 → Single n s1 s3 n
-  not-its-cube k =
-      single-none n s1 s3
-      (record {
-        no-last = λ q1 q3. k (is-cube ∙ ap cube q1 ∙ cube-zero ∙ sym q3);
-        no-front = λ e h t. k (is-cube ∙ ap cube (t .0) ∙ cube-power e ∙ sym (t .1));
-      })
-
-  module _ (k : y ≡ s3) where
-    pub parity-found : s1 ≡ 0 → Single n s1 s3 (n - 1)
-    parity-found z =
+    pub no-power : powerPart m w ≡ 0 → OneOf m w (order m)
+    no-power z =
         record {
-          last = λ h. (z, sym k ∙ is-cube ∙ ap cube z ∙ cube-zero);
-          front = λ h. absurd (omega arith);
-          none = λ h. absurd (omega arith);
+          apart = λ h. absurd (omega arith);
+          either = λ f g l h q.
+              let k = pow-same m fit f g h (omega arith) (⊕-zero→≡ (sym (power-of-two f g l h q) ∙ z)) in absurd (omega (arith, k));
         }
 
-    module _ (z : s1 ≢ 0) (e : ℕ) (qe : e ≡ logarithm s1) where
-      pub cut-away : n < e + 2 → Single n s1 s3 n
-      cut-away i =
-          single-none n s1 s3
-          (record {
-            no-last = λ q1 q3. z q1;
-            no-front = λ f h t. omega (arith, qe, ap logarithm (t .0) ∙ logarithm-power f (omega arith));
-          })
+    cube-of-two : (f g : ℕ) → g < f → f < order m → w ≡ markAt m f ⊕ markAt m g → cubePart m w ≡ aPower m (3 * f) ⊕ aPower m (3 * g)
+    cube-of-two f g l h q =
+        ap (cubePart m) q ∙ cube-additive m (markAt m f) (markAt m g) ∙ ap₂ _⊕_ (cube-at m fit f h) (cube-at m fit g (omega arith))
 
-      pub single-found : s1 < 256 → e + 2 ≤ n → Single n s1 s3 (n - 2 - e)
-      single-found b i =
-          let r : n - 2 - (n - 2 - e) ≡ e = omega arith in
-          let q : s1 ≡ power e = sym (ap power qe ∙ power-logarithm s1 z b) in
+    pub half-one :
+        (s l c k e : ℕ) → s ≡ powerPart m w → s ≢ 0 → l ≡ logAt m s → c ≡ cubePart m w → Slot m l c k → e < order m
+        → Reduced m (halfAt m k + l) e → OneOf m w e
+    half-one s l c k e qs ns ql qc slot he r =
+        let hs : s < 2 ^ suc (m .top) = rw qs (mod-lt (w / 2 ^ suc (m .last)) (pow-pos (suc (m .top)))) in
+        record {
+          apart = λ h z. ns (qs ∙ z);
+          either = λ f g o h q.
+              half-found m fit f g l k e h (omega arith) (rw ql (log-small m fit s ns hs)) he
+              (ap (aPower m) ql ∙ pow-log m fit s ns hs ∙ qs ∙ power-of-two f g o h q)
+              (subst (λ x. Slot m l x k) (qc ∙ cube-of-two f g o h q) slot) r;
+        }
+
+  -- ---- two places: one of them, and the other by the mark that is left
+
+  module _ (bound w e : ℕ) (small : bound ≤ order m) (one : OneOf m w e) where
+    pub pair-far : (f : ℕ) → bound ≤ e → Pair m bound w bound f
+    pair-far f k =
+        record {
+          found = λ h. absurd (omega arith);
+          none = λ h i j l b q. ⊎-elim (λ s. omega (arith, s)) (λ s. omega (arith, s)) (one .either i j l (omega arith) q);
+        }
+
+    module _ (v f : ℕ) (qv : v ≡ markAt m e) (inside : e < bound) (lone : Lone m bound (w ⊕ v) f) where
+      -- what is left of two marks is the other
+      left-of : (x y : ℕ) → e ≡ x → w ≡ markAt m x ⊕ markAt m y → w ⊕ v ≡ markAt m y
+      left-of x y s q =
+          ap₂ _⊕_ q (qv ∙ ap (markAt m) s) ∙ ⊕-comm (markAt m x ⊕ markAt m y) (markAt m x) ∙ ⊕-cancel (markAt m x) (markAt m y)
+
+      none-left : bound ≤ f → NoPair m bound w
+      none-left k i j l b q =
+          ⊎-elim (λ s. lone .none k j (omega arith) (left-of i j s q))
+          (λ s. lone .none k i b (left-of j i s (q ∙ ⊕-comm (markAt m i) (markAt m j)))) (one .either i j l (omega arith) q)
+
+      both : f < bound → w ≡ markAt m e ⊕ markAt m f
+      both k =
+          sym (⊕-cancel v w) ∙ ap (λ x. v ⊕ x) (⊕-comm v w ∙ lone .found k) ∙ ap (λ x. x ⊕ markAt m f) qv
+
+      -- were they the same, nothing would be left
+      not-same : e ≢ f
+      not-same s =
+          let z : w ≡ 0 = both (omega (arith, s)) ∙ ap (λ x. markAt m e ⊕ markAt m x) (sym s) ∙ ⊕-self (markAt m e) in
+          one .apart (omega arith) (ap (powerPart m) z ∙ additive-zero (powerPart m) (power-additive m))
+
+      pub pair-above : e < f → Pair m bound w f e
+      pair-above k =
           record {
-            last = λ h. absurd (omega arith);
-            front = λ h. rw r (q, sym k ∙ is-cube ∙ ap cube q ∙ cube-power e);
+            found = λ h. (k, both h ∙ ⊕-comm (markAt m e) (markAt m f));
+            none = none-left;
+          }
+
+      pub pair-below : f ≤ e → Pair m bound w e f
+      pair-below k =
+          record {
+            found = λ h. (omega (arith, not-same), both (omega arith));
             none = λ h. absurd (omega arith);
           }
-
--- ---- the partner of place p: x is the power there, f the logarithm of what is left of s1
-
-partner-none : (n s1 s3 p : ℕ) → Alone n s1 s3 p → Partner n s1 s3 p n
-partner-none n s1 s3 p a = record { found = λ h. absurd (omega arith); alone = λ h. a }
-
-module _ (n s1 s3 p x : ℕ) (small : n ≤ 256) (inside : p + 1 < n) (qx : x ≡ power (n - 2 - p)) where
-  -- what is left of s1 is the partner's power
-  left-power : (f : ℕ) → s1 ≡ power (n - 2 - p) ⊕ power f → s1 ⊕ x ≡ power f
-  left-power f q = ap₂ _⊕_ q qx ∙ ⊕-comm (power (n - 2 - p) ⊕ power f) (power (n - 2 - p)) ∙ ⊕-cancel (power (n - 2 - p)) (power f)
-
-  pub no-power : s1 ⊕ x ≡ 0 → Partner n s1 s3 p n
-  unfolding Alone
-  no-power z = partner-none n s1 s3 p (λ f h t. power-some f (sym (left-power f (t .0)) ∙ z))
-
-  module _ (f : ℕ) (qf : f ≡ logarithm (s1 ⊕ x)) where
-    partner-log : (i : ℕ) → i < n - 2 - p → s1 ≡ power (n - 2 - p) ⊕ power i → f ≡ i
-    partner-log i h q = qf ∙ ap logarithm (left-power i q) ∙ logarithm-power i (omega arith)
-
-    pub not-behind : n - 2 - p ≤ f → Partner n s1 s3 p n
-    unfolding Alone
-    not-behind k = partner-none n s1 s3 p (λ i h t. omega (arith, partner-log i h (t .0)))
-
-    module _ (u v : ℕ) (qu : u ≡ power (3 * (n - 2 - p))) (qv : v ≡ power (3 * f)) where
-      pub not-cubes : u ⊕ v ≢ s3 → Partner n s1 s3 p n
-      unfolding Alone
-      not-cubes k =
-          partner-none n s1 s3 p
-          (λ i h t. k (ap₂ _⊕_ qu (qv ∙ ap (λ j. power (3 * j)) (partner-log i h (t .0))) ∙ sym (t .1)))
-
-      pub partner-found : s1 < 256 → s1 ⊕ x ≢ 0 → f < n - 2 - p → u ⊕ v ≡ s3 → Partner n s1 s3 p (n - 2 - f)
-      partner-found b z k q =
-          let y : s1 ⊕ x < 256 = ⊕-lt 8 b (rw qx (power-small (n - 2 - p))) in
-          let r : n - 2 - (n - 2 - f) ≡ f = omega arith in
-          let e : s1 ⊕ x ≡ power f = sym (ap power qf ∙ power-logarithm (s1 ⊕ x) z y) in
-          record {
-            found = λ h. (
-              omega arith,
-              omega arith,
-              rw r (
-                sym (⊕-cancel x s1) ∙ ap (λ m. x ⊕ m) (⊕-comm x s1 ∙ e) ∙ ap (λ m. m ⊕ power f) qx,
-                sym q ∙ ap₂ _⊕_ qu qv,
-              ),
-            );
-            alone = λ h. absurd (omega arith);
-          }
-
--- ---- place after place
-
-pub alone-none : (n s1 s3 : ℕ) → AllAlone n s1 s3 0
-unfolding AllAlone
-alone-none n s1 s3 p h = absurd (omega arith)
-
-pub alone-more : (n s1 s3 k : ℕ) → AllAlone n s1 s3 k → Alone n s1 s3 k → AllAlone n s1 s3 (k + 1)
-unfolding AllAlone
-alone-more n s1 s3 k a b p h = go (ℕ-discrete p k)
-  where
-    go : Dec (p ≡ k) → Alone n s1 s3 p
-    go (yes q) = rw q b
-    go (no q) = a p (omega (arith, q))

@@ -8,7 +8,6 @@ pub mod FieldLaws
 pub mod CodeLaws
 pub mod SmallCode
 pub mod CheckLaws
-pub mod PowerSumLaws
 pub mod SearchLaws
 pub mod PatternLaws
 pub mod NearestLaws

@@ -6,4 +6,5 @@ pub mod encode;
 pub mod locate;
 pub mod mend;
 pub mod numbers;
+mod search;
 pub mod sizes;

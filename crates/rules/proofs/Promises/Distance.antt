@@ -13,18 +13,18 @@ use Rattle.algebra.specs.Xor.{_⊕_}
 use Rattle.algebra.specs.Tables.{num, ones}
 use Rattle.algebra.specs.Words.{Word, bit, _⊻_, differ}
 use Rattle.algebra.specs.Remainder.{register}
-use Rattle.algebra.specs.Field256.{powers, logs}
+use Rattle.algebra.specs.Field256.{powers, logs, smallMarking}
 use Rattle.algebra.proofs.Digits.{num-le}
 use Rattle.algebra.proofs.XorLaws.{zero-⊕}
 use Rattle.algebra.proofs.WordLaws.{⊻-length, differ-zero}
-use Rattle.algebra.proofs.Field256Laws.{tables256}
+use Rattle.algebra.proofs.MarkLaws.{sumOf, sum-additive, sum-carried}
+use Rattle.algebra.proofs.Field256Laws.{fit256, tables256}
 use Rattle.algebra.proofs.Independent.{independent}
 use Rattle.rules.specs.Codes.{Code, radius, g, smallCode}
 use Rattle.rules.specs.Words.{remainder, checks, Codeword}
 use Rattle.rules.proofs.Laws.CodeLaws.{Sound, Mends, register-dot}
 use Rattle.rules.proofs.Laws.CheckLaws.{last-bit, ones-last, codeword-checks, checks-⊻, zeros-ahead}
 use Rattle.rules.proofs.Laws.SmallCode.{low, low-small, g-low, sound-small}
-use Rattle.rules.proofs.Laws.PowerSumLaws.{part, part-additive, part-carried}
 
 -- different codewords differ in at least d places
 abbrev pub DistanceAt : Code → ℕ → Type 0
@@ -73,7 +73,7 @@ shortened code ok n z h w l = zeros-ahead code ok n z w (omega (arith, ok .room)
 -- the ones before the parity bit, where these are few and the remainder is zero
 few-front : (u : Word) → length u ≤ 255 → ones u ≤ 4 → register 16 g 0 u ≡ 0 → ones u ≡ 0
 few-front u long few e =
-    independent 15 low low-small 7 29 powers logs tables256 2 part part-additive part-carried u long few
+    independent 15 low low-small 7 29 powers logs tables256 2 (sumOf smallMarking) (sum-additive smallMarking) (sum-carried smallMarking fit256) u long few
     (rw g-low at (sym (register-dot smallCode sound-small u) ∙ e))
 
 -- the overall parity leaves no odd number

@@ -1,45 +1,96 @@
--- `even_places`: none where the single place is the parity bit, else that place and the parity bit; two others where it has none.
+-- `even_places`: the place with the mark and the parity bit, else the two places whose marks add to it.
 -- Assumes nothing.
 use mathlib.Core.Path.{sym, ap}
 use native.Mathlib.Omega.{arith}
 use borrow.Author.Needs.{needs}
-use Rattle.laws.proofs.LocatedLaws.{even-none, even-one}
+use Rattle.laws.proofs.LocatedLaws.{even-one, even-two, even-beyond}
 use Rattle.word.specs.Said.{answerOf}
 use Rattle.word.proofs.locate.even_places.Statement.{statement}
 use Rattle.word.proofs.locate.even_places.Tie as tie
 
-one-place-requires : tie.Need-one-place-requires
-one-place-requires c κs = search needs
+sub-lone : tie.Need-sub-lone
+sub-lone c = search needs
 
-two-places-requires : tie.Need-two-places-requires
-two-places-requires c κs = (search needs, search needs, c .before .one-place .ensures .none (c .if1 .taken))
+lone-requires : tie.Need-lone-requires
+lone-requires c κs = search needs
+
+sub-if1 : tie.Need-sub-if1
+sub-if1 c = search needs
+
+sub-t10 : tie.Need-sub-t10
+sub-t10 c = search needs
+
+sub-t11 : tie.Need-sub-t11
+sub-t11 c = search needs
+
+sub-t12 : tie.Need-sub-t12
+sub-t12 c = search needs
 
 returns : tie.Need-returns
-returns c = search needs
+returns c =
+    let a = c .before .before .args in
+    λ x f l o m.
+    ap answerOf (sym (even-one (a .n) (omega arith) (omega arith) x (a .w) f l m _ (c .before .lone .ensures) o (c .if1 .taken)))
+
+sub-pair : tie.Need-sub-pair
+sub-pair c = search needs
+
+pair-requires : tie.Need-pair-requires
+pair-requires c κs = search needs
 
 sub-if2 : tie.Need-sub-if2
 sub-if2 c = search needs
 
-sub-t8 : tie.Need-sub-t8
-sub-t8 c = search needs
+sub-t14 : tie.Need-sub-t14
+sub-t14 c = search needs
+
+sub-t15 : tie.Need-sub-t15
+sub-t15 c = search needs
+
+sub-t16 : tie.Need-sub-t16
+sub-t16 c = search needs
+
+sub-t17 : tie.Need-sub-t17
+sub-t17 c =
+    let b = c .before .before in omega (arith, b .before .before .pair .ensures .found (b .if2 .taken) .0, b .if2 .taken)
 
 returns-2 : tie.Need-returns-2
 returns-2 c =
-    let a = c .before .before .before .args in
-    λ x l o s.
+    let b = c .before .before in
+    let d = b .before .before .before .before in
+    let a = d .before .args in
+    λ x f l o m.
     ap answerOf
-    (sym (even-none (a .n) (a .s1) (a .s3) (omega arith) (omega arith) _ (c .before .before .one-place .ensures) (c .if2 .taken) x l o s))
+    (sym
+    (even-two (a .n) (omega arith) (omega arith) x (a .w) f l m _ (d .lone .ensures) _ _ (b .before .before .pair .ensures) o (b .if2 .taken)))
 
 returns-3 : tie.Need-returns-3
 returns-3 c =
-    let a = c .before .before .before .args in
-    λ x l o s.
+    let d = c .before .before .before .before in
+    let a = d .before .args in
+    λ x f l o m.
     ap answerOf
     (sym
-    (even-one (a .n) (a .s1) (a .s3) (omega arith) (omega arith) _ (c .before .before .one-place .ensures) (omega arith) (c .if2 .left)
-    x l o s))
+    (even-beyond (a .n) (omega arith) (omega arith) x (a .w) f l m _ (d .lone .ensures) _ _ (c .before .before .pair .ensures) o
+    (omega (arith, c .before .before .before .if1 .left)) (omega (arith, c .if2 .left))))
 
 pub even-places-spec : {M : Type 1} → statement M
 even-places-spec =
     tie.close
-    (tie.spec one-place-requires two-places-requires returns sub-if2 sub-t8 returns-2 returns-3)
+    (tie.spec
+    sub-lone
+    lone-requires
+    sub-if1
+    sub-t10
+    sub-t11
+    sub-t12
+    returns
+    sub-pair
+    pair-requires
+    sub-if2
+    sub-t14
+    sub-t15
+    sub-t16
+    sub-t17
+    returns-2
+    returns-3)

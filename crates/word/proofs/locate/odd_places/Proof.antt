@@ -1,4 +1,4 @@
--- `odd_places`: the single place, and no other answer where there is none.
+-- `odd_places`: the place with the mark, and no other answer where there is none.
 -- Assumes nothing.
 use mathlib.Core.Path.{sym, ap}
 use native.Mathlib.Omega.{arith}
@@ -8,21 +8,33 @@ use Rattle.word.specs.Said.{answerOf}
 use Rattle.word.proofs.locate.odd_places.Statement.{statement}
 use Rattle.word.proofs.locate.odd_places.Tie as tie
 
-one-place-requires : tie.Need-one-place-requires
-one-place-requires c κs = search needs
+sub-lone : tie.Need-sub-lone
+sub-lone c = search needs
+
+lone-requires : tie.Need-lone-requires
+lone-requires c κs = search needs
+
+sub-if1 : tie.Need-sub-if1
+sub-if1 c = search needs
+
+sub-t9 : tie.Need-sub-t9
+sub-t9 c = search needs
+
+sub-t10 : tie.Need-sub-t10
+sub-t10 c = search needs
 
 returns : tie.Need-returns
 returns c =
     let a = c .before .before .args in
-    λ x l o s.
-    ap answerOf
-    (sym (odd-one (a .n) (a .s1) (a .s3) (omega arith) (omega arith) _ (c .before .one-place .ensures) (c .if1 .taken) x l o s))
+    λ x f l o m.
+    ap answerOf (sym (odd-one (a .n) (omega arith) (omega arith) x (a .w) f l m _ (c .before .lone .ensures) o (c .if1 .taken)))
 
 returns-2 : tie.Need-returns-2
 returns-2 c =
     let a = c .before .before .args in
-    let k = c .before .one-place .ensures .none (omega arith) in
-    λ x l o s. ap answerOf (sym (odd-beyond (a .n) (a .s1) (a .s3) (omega arith) (omega arith) k x l o s))
+    λ x f l o m.
+    ap answerOf (sym (odd-beyond (a .n) (omega arith) (omega arith) x (a .w) f l m _ (c .before .lone .ensures) o (omega (arith, c .if1 .left))))
 
 pub odd-places-spec : {M : Type 1} → statement M
-odd-places-spec = tie.close (tie.spec one-place-requires returns returns-2)
+odd-places-spec =
+    tie.close (tie.spec sub-lone lone-requires sub-if1 sub-t9 sub-t10 returns returns-2)
