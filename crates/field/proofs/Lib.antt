@@ -1,1 +1,1 @@
--- The laws of the tables are those of `rules`, FieldLaws.
+-- The rule of the tables is in `algebra`, Field256Laws.

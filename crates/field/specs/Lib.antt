@@ -1,1 +1,1 @@
--- The contracts cite the definitions of `rules`.
+-- The contracts cite the definitions of `algebra`.

@@ -1,8 +1,8 @@
 // What the tests call from C and Rust beside the three functions of the host.
 use crate::pack::pack_answer;
 use crate::pack::pack_said;
-use field::log;
-use field::power;
+use field::logs::exponent;
+use field::marks::place;
 use frame::row::row;
 use word::decode::decode_word;
 use word::locate::locate;
@@ -14,18 +14,27 @@ ghost use Rattle.probe.specs.Calls.{DecodesWordPacked, CopiesRow, packed
 // All checks lie below it.
 const CHECKS_END: u32 = 131072;
 
+// The powers of a come round after so many; in a mark they begin above this bit, and are of so many elements.
+const ORDER: usize = 255;
+
+const POWERS_BEGIN: u32 = 65536;
+
+const ELEMENTS: u32 = 256;
+
 #[no_mangle]
 pub extern "C" fn probe_power(e: usize) -> u8
     ensures { λ r. ⌜ r ≡ rules.power e ⌝ }
 {
-    power(e)
+    let marks = field::marks::table();
+    (place(&marks, e % ORDER) / POWERS_BEGIN % ELEMENTS) as u8
 }
 
 #[no_mangle]
 pub extern "C" fn probe_logarithm(x: u8) -> usize
     ensures { λ r. ⌜ r ≡ rules.logarithm x ⌝ }
 {
-    log(x)
+    let logs = field::logs::table();
+    exponent(&logs, x as usize)
 }
 
 // Bits 0..7 the number, 8..15 how many places were changed, 16..31 the first, 32..47 the second.

@@ -6,5 +6,4 @@ pub mod encode;
 pub mod locate;
 pub mod mend;
 pub mod numbers;
-mod search;
 pub mod sizes;

@@ -1,7 +1,7 @@
 // From the checks of a word to its answer, by the marks of places.
-use crate::search::lone;
-use crate::search::mark_of;
-use crate::search::pair;
+use places::lone;
+use places::mark_of;
+use places::pair;
 ghost use mathlib.Core.Path.{_≡_};
 ghost use Prim.Native.Nat.{_≤_, _<_};
 ghost use Rattle.word.specs.Said.{answerOf};

@@ -9,10 +9,12 @@ use borrow.Author.Tests.{eqb-true, eqb-false}
 use lib.Dec.{eqb, lit<}
 use lib.ListN.{getD}
 use Rattle.algebra.specs.Register.{iter, turn}
-use Rattle.algebra.specs.Field256.{powers, logs}
+use Rattle.algebra.specs.Marking.{powerPart, markAt}
+use Rattle.algebra.specs.Field256.{logs, smallMarking}
 use Rattle.algebra.proofs.RegisterLaws.{iter-add, iter-mul, iter-keeps, iter-lt, iter-nonzero}
 use Rattle.algebra.proofs.RegisterProduct.{multiply, multiply-powers, zero-multiply, multiply-zero}
-use Rattle.algebra.proofs.Field256Laws.{powers256-at, round256, powers256-logs, logs256-lt, power256-injective}
+use Rattle.algebra.proofs.MarkLaws.{power-at}
+use Rattle.algebra.proofs.Field256Laws.{fit256, powers256-at, round256, powers256-logs, logs256-lt, power256-injective}
 use Rattle.rules.specs.Field.{poly, timesA, power, exponent, logarithm, product}
 
 -- ---- powers
@@ -119,12 +121,6 @@ product-powers i j =
     product-is (power i) (power j) ∙ ap₂ (multiply 7 29) (power-is i) (power-is j)
     ∙ multiply-powers 7 29 (lit< tt) i j ∙ sym (power-is (i + j))
 
--- the way by which code multiplies
-pub product-logarithms :
-    (x y : ℕ) → x ≢ 0 → y ≢ 0 → x < 256 → y < 256 → product x y ≡ power (logarithm x + logarithm y)
-product-logarithms x y nx ny hx hy =
-    ap₂ product (sym (power-logarithm x nx hx)) (sym (power-logarithm y ny hy)) ∙ product-powers (logarithm x) (logarithm y)
-
 pub product-zero-left : (y : ℕ) → product 0 y ≡ 0
 product-zero-left y = product-is 0 y ∙ zero-multiply 7 29 y
 
@@ -133,8 +129,8 @@ product-zero-right x = product-is x 0 ∙ multiply-zero 7 29 x
 
 -- ---- the tables
 
-pub powers-power : (e : ℕ) → getD powers (e % 255) 0 ≡ power e
-powers-power e = powers256-at (e % 255) (omega arith) ∙ sym (power-is (e % 255)) ∙ power-wrap e
+pub marks-power : (e : ℕ) → powerPart smallMarking (markAt smallMarking (e % 255)) ≡ power e
+marks-power e = power-at smallMarking fit256 (e % 255) (omega arith) ∙ sym (power-is (e % 255)) ∙ power-wrap e
 
 pub logs-logarithm : (x : ℕ) → x < 256 → getD logs x 0 ≡ logarithm x
 unfolding logs

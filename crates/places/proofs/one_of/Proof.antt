@@ -1,4 +1,4 @@
--- `search::one_of`: the half at the slot, moved by the logarithm of the power.
+-- `places::one_of`: the half at the slot, moved by the logarithm of the power.
 -- Assumes nothing.
 use mathlib.Core.Path.{sym, _∙_}
 use native.Mathlib.Omega.{arith}
@@ -6,8 +6,8 @@ use Rattle.algebra.specs.Field256.{smallMarking}
 use Rattle.algebra.proofs.Field256Laws.{fit256}
 use Rattle.laws.proofs.LocateSteps.{no-power, half-one}
 use borrow.Author.Needs.{needs}
-use Rattle.word.proofs.search.one_of.Statement.{statement}
-use Rattle.word.proofs.search.one_of.Tie as tie
+use Rattle.places.proofs.one_of.Statement.{statement}
+use Rattle.places.proofs.one_of.Tie as tie
 
 power-part-requires : tie.Need-power-part-requires
 power-part-requires c κs = search needs

@@ -1,4 +1,4 @@
--- `search::slot`: behind all others for 0, else at the difference of the logarithms.
+-- `places::slot`: behind all others for 0, else at the difference of the logarithms.
 -- Assumes nothing.
 use mathlib.Core.Path.{ap, subst, _∙_}
 use native.Mathlib.Omega.{arith}
@@ -7,8 +7,8 @@ use Rattle.algebra.specs.Field256.{smallMarking}
 use Rattle.algebra.proofs.PairLaws.{slot-zero, slot-some}
 use Rattle.algebra.proofs.Field256Laws.{fit256}
 use borrow.Author.Needs.{needs}
-use Rattle.word.proofs.search.slot.Statement.{statement}
-use Rattle.word.proofs.search.slot.Tie as tie
+use Rattle.places.proofs.slot.Statement.{statement}
+use Rattle.places.proofs.slot.Tie as tie
 
 returns : tie.Need-returns
 returns c = (search needs, rw (c .if1 .taken) (slot-zero smallMarking fit256 (c .before .args .l)))
@@ -41,8 +41,7 @@ returns-2 c =
     let a = d .args in
     let q =
     b .before .exponent .ensures .0
-    ∙ ap (logAt smallMarking) (b .before .before .cube-part .ensures .0 ∙ ap (cubePart smallMarking) (b .before .before .before .place .ensures)) in
-    (
+    ∙ ap (logAt smallMarking) (b .before .before .cube-part .ensures .0 ∙ ap (cubePart smallMarking) (b .before .before .before .place .ensures)) in (
       search needs,
       slot-some smallMarking fit256 (a .l) (a .cubes) _ _ (d .pre .2) (b .before .before .before .before .if1 .left) (d .pre .3) q
           (c .reduced .ensures .0) (rw (b .exponent2 .ensures .0) at (c .reduced .ensures .1)),

@@ -1,4 +1,4 @@
--- `search::mark_of`: the mark, bit after bit of the remainder.
+-- `places::mark_of`: the mark, bit after bit of the remainder.
 -- Assumes nothing.
 use Prim.Native.Nat.{_-_, _%_, _≤_}
 use native.Mathlib.Omega.{arith}
@@ -7,8 +7,8 @@ use Rattle.algebra.specs.Field256.{smallMarking}
 use Rattle.algebra.proofs.RegisterLaws.{digit-lt}
 use Rattle.laws.proofs.LocateSteps.{Marked, marked-none, marked-one, marked-all}
 use borrow.Author.Needs.{needs}
-use Rattle.word.proofs.search.mark_of.Statement.{statement}
-use Rattle.word.proofs.search.mark_of.Tie as tie
+use Rattle.places.proofs.mark_of.Statement.{statement}
+use Rattle.places.proofs.mark_of.Tie as tie
 
 abbrev Inv-loop : tie.InvT-loop
 Inv-loop marks remainder left₀ w₀ i₀ left w i = (i ≤ 16) × Marked smallMarking remainder i left w

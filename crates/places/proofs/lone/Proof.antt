@@ -1,4 +1,4 @@
--- `search::lone`: the logarithm of the power names the place, and its mark decides.
+-- `places::lone`: the logarithm of the power names the place, and its mark decides.
 -- Assumes nothing.
 use mathlib.Core.Path.{sym, _∙_}
 use native.Mathlib.Omega.{arith}
@@ -6,8 +6,8 @@ use Rattle.algebra.specs.Field256.{smallMarking}
 use Rattle.algebra.proofs.Field256Laws.{fit256}
 use Rattle.laws.proofs.LocateSteps.{lone-zero, lone-far, lone-other, lone-found}
 use borrow.Author.Needs.{needs}
-use Rattle.word.proofs.search.lone.Statement.{statement}
-use Rattle.word.proofs.search.lone.Tie as tie
+use Rattle.places.proofs.lone.Statement.{statement}
+use Rattle.places.proofs.lone.Tie as tie
 
 power-part-requires : tie.Need-power-part-requires
 power-part-requires c κs = search needs

@@ -1,11 +1,11 @@
--- `search::reduced`: the order is taken off once, or not at all.
+-- `places::reduced`: the order is taken off once, or not at all.
 -- Assumes nothing.
 use mathlib.Core.Path.{refl}
 use mathlib.Core.Logic.{inl, inr}
 use native.Mathlib.Omega.{arith}
 use borrow.Author.Needs.{needs}
-use Rattle.word.proofs.search.reduced.Statement.{statement}
-use Rattle.word.proofs.search.reduced.Tie as tie
+use Rattle.places.proofs.reduced.Statement.{statement}
+use Rattle.places.proofs.reduced.Tie as tie
 
 returns : tie.Need-returns
 returns c = (search needs, inl refl)

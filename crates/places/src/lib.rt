@@ -1,5 +1,5 @@
-// From the mark of a remainder to the one place or the two that leave it, by lent tables. A place goes by its exponent, below a bound.
-use crate::sizes::CHECK_BITS;
+// Places found by their marks: the one, or the two, that leave a remainder. The tables are lent; a place goes by its exponent, which lies
+// below a bound.
 use field::halves::half;
 use field::logs::exponent;
 use field::marks::place;
@@ -8,6 +8,8 @@ ghost use Prim.Native.Nat.{_*_, _≤_, _<_};
 ghost use Rattle.algebra.specs.Marking.{order, powerPart, cubePart, markOf, Reduced, Slot};
 ghost use Rattle.algebra.specs.Field256.{smallMarking};
 ghost use Rattle.laws.specs.Search.{Lone, OneOf, Pair};
+
+const REMAINDER_BITS: usize = 16;
 
 // The powers of a come round after so many.
 const ORDER: usize = 255;
@@ -19,19 +21,19 @@ const CUBES_BEGIN: u32 = 16777216;
 
 const ELEMENTS: u32 = 256;
 
-pub(crate) struct Two {
-    pub(crate) high: usize,
-    pub(crate) low: usize,
+pub struct Two {
+    pub high: usize,
+    pub low: usize,
 }
 
 // The mark of each of the remainder's ones, added.
-pub(crate) fn mark_of(marks: &[u32; 255], remainder: u32) -> u32
+pub fn mark_of(marks: &[u32; 255], remainder: u32) -> u32
     requires { ⌜ now marks ≡ smallMarking .marks ⌝ }
     ensures { λ r. ⌜ r ≡ markOf smallMarking remainder ⌝ }
 {
     let mut left = remainder;
     let mut w: u32 = 0;
-    for i in 0..CHECK_BITS - 1 {
+    for i in 0..REMAINDER_BITS {
         w = w ^ left % 2 * place(marks, i);
         left = left / 2;
     }
@@ -58,7 +60,7 @@ fn reduced(x: usize) -> usize
 }
 
 // The place with this mark; the bound where there is none.
-pub(crate) fn lone(marks: &[u32; 255], logs: &[u8; 256], bound: usize, w: u32) -> usize
+pub fn lone(marks: &[u32; 255], logs: &[u8; 256], bound: usize, w: u32) -> usize
     requires { ⌜ (now marks ≡ smallMarking .marks) × (now logs ≡ smallMarking .logs) × (bound ≤ order smallMarking) ⌝ }
     ensures { λ e. ⌜ Lone smallMarking bound w e ⌝ }
 {
@@ -103,13 +105,7 @@ fn one_of(marks: &[u32; 255], logs: &[u8; 256], halves: &[u8; 256], w: u32) -> u
 }
 
 // The two places whose marks add to this; the higher is the bound where there are none.
-pub(crate) fn pair(
-    marks: &[u32; 255],
-    logs: &[u8; 256],
-    halves: &[u8; 256],
-    bound: usize,
-    w: u32,
-) -> Two
+pub fn pair(marks: &[u32; 255], logs: &[u8; 256], halves: &[u8; 256], bound: usize, w: u32) -> Two
     requires { ⌜ (now marks ≡ smallMarking .marks) × (now logs ≡ smallMarking .logs) × (now halves ≡ smallMarking .halves) × (bound ≤ order smallMarking) ⌝ }
     ensures { λ r. ⌜ Pair smallMarking bound w (r .high) (r .low) ⌝ }
 {

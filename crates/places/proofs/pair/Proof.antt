@@ -1,4 +1,4 @@
--- `search::pair`: one of two places, and the other by what is left of the mark.
+-- `places::pair`: one of two places, and the other by what is left of the mark.
 -- Assumes nothing.
 use native.Mathlib.Omega.{arith}
 use Rattle.algebra.specs.Xor.{_⊕_}
@@ -6,8 +6,8 @@ use Rattle.algebra.specs.Field256.{smallMarking}
 use Rattle.algebra.proofs.Field256Laws.{fit256}
 use Rattle.laws.proofs.LocateSteps.{pair-far, pair-above, pair-below}
 use borrow.Author.Needs.{needs}
-use Rattle.word.proofs.search.pair.Statement.{statement}
-use Rattle.word.proofs.search.pair.Tie as tie
+use Rattle.places.proofs.pair.Statement.{statement}
+use Rattle.places.proofs.pair.Tie as tie
 
 one-of-requires : tie.Need-one-of-requires
 one-of-requires c κs = search needs

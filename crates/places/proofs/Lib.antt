@@ -1,0 +1,1 @@
+-- The laws are those of `laws`, LocateSteps, and of `algebra`, PairLaws.
