@@ -10,8 +10,8 @@ use lib.Dec.{T, eqb, eqb→eq, ltb, ltb→lt}
 use lib.ListN.{length, getD}
 use lib.Pow.{split}
 use Rattle.algebra.specs.Xor.{_⊕_}
-use Rattle.algebra.specs.Register.{iter, turn}
-use Rattle.algebra.specs.Linear.{Additive, lin}
+use Rattle.algebra.specs.Register.{iter}
+use Rattle.algebra.specs.Linear.{Additive}
 use Rattle.algebra.specs.Tables.{tab, allBelow}
 use Rattle.algebra.specs.LogTables.{follows, Tables}
 use Rattle.algebra.specs.Marking.{Marking, order, timesA, timesZ, aPower, zPower, remainderPart, powerPart, cubePart, powersOf, markAt, markOf, isHalf}

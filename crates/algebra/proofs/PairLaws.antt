@@ -3,15 +3,15 @@
 use mathlib.Core.Path.{_≡_, refl, sym, ap, ap₂, _∙_}
 use mathlib.Core.Logic.{_≢_, _⊎_, inl, inr, ⊎-elim}
 use mathlib.Core.Bool.{Bool, true, false, cond, _||_}
-use Prim.Native.Nat.{ℕ, zero, suc, _+_, _*_, _-_, _%_, _^_, _≤_, _<_}
-use native.Mathlib.Decide.{decLt, ℕ-discrete}
+use Prim.Native.Nat.{ℕ, zero, suc, _+_, _*_, _-_, _%_, _^_, _<_}
+use native.Mathlib.Decide.{decLt}
 use native.Mathlib.Omega.{arith}
-use borrow.Author.Tests.{eq-eqb, ne-eqb, eqb-true}
+use borrow.Author.Tests.{ne-eqb, eqb-true}
 use lib.Dec.{eqb}
 use Rattle.algebra.specs.Xor.{_⊕_}
 use Rattle.algebra.specs.Register.{iter}
 use Rattle.algebra.specs.Marking.{Marking, order, timesA, aPower, powerPart, cubePart, powersOf, markAt, logAt, halfAt, slotOf, isHalf, Reduced, Slot}
-use Rattle.algebra.proofs.XorLaws.{⊕-self, ⊕-comm, ⊕-cancel, ⊕-zero→≡, ≡→⊕-zero, ⊕-zero, ⊕-lt}
+use Rattle.algebra.proofs.XorLaws.{⊕-self, ⊕-cancel, ⊕-zero→≡, ≡→⊕-zero, ⊕-lt}
 use Rattle.algebra.proofs.LinearLaws.{additive-iter}
 use Rattle.algebra.proofs.RegisterLaws.{turn-additive, iter-add, iter-comm, iter-lt, iter-zero, iter-nonzero, one-lt}
 use Rattle.algebra.proofs.TableLaws.{below-each}
@@ -86,9 +86,6 @@ module _ (m : Marking) (fit : Fit m) where
       go (no k) = (f - l, omega (arith, k), inl (omega (arith, k)))
 
   -- ---- the slot of a quotient: of the number that 3 l steps lead to s
-
-  slot-none : slotOf m 0 ≡ order m
-  slot-none = refl
 
   slot-log : (t : ℕ) → t ≢ 0 → slotOf m t ≡ logAt m t
   slot-log t n = ap (λ b. cond b (order m) (logAt m t)) (ne-eqb t 0 n)

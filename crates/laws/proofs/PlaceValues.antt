@@ -11,7 +11,7 @@ use Rattle.algebra.specs.Xor.{_⊕_}
 use Rattle.algebra.specs.Remainder.{powersDown, descend}
 use Rattle.algebra.specs.Marking.{zPower}
 use Rattle.algebra.specs.Field256.{smallMarking}
-use Rattle.algebra.proofs.XorLaws.{⊕-self, ⊕-zero, xors}
+use Rattle.algebra.proofs.XorLaws.{xors}
 use Rattle.algebra.proofs.RegisterLaws.{⊕-double}
 use Rattle.algebra.proofs.RemainderLaws.{beside, powersDown-suc}
 use Rattle.rules.specs.Codes.{smallCode}

@@ -24,11 +24,11 @@ fn odd_places(n: usize, w: u32, marks: &[u32; 255], logs: &[u8; 256]) -> Answer
     ensures { λ r. ⌜ Locates n 1 w r ⌝ }
 {
     let e = lone(marks, logs, n - 1, w);
-    if e < n - 1 {
-        Answer::OnePlace(n - 2 - e)
-    } else {
-        Answer::Beyond
+    if n - 1 <= e {
+        return Answer::Beyond;
     }
+    let p = n - 2 - e;
+    Answer::OnePlace(p)
 }
 
 // An even number of places: the parity bit and one other, two others, or more than two.
@@ -39,14 +39,16 @@ fn even_places(n: usize, w: u32, marks: &[u32; 255], logs: &[u8; 256], halves: &
 {
     let e = lone(marks, logs, n - 1, w);
     if e < n - 1 {
-        return Answer::TwoPlaces(n - 2 - e, n - 1);
+        let p = n - 2 - e;
+        return Answer::TwoPlaces(p, n - 1);
     }
     let two = pair(marks, logs, halves, n - 1, w);
-    if two.high < n - 1 {
-        Answer::TwoPlaces(n - 2 - two.high, n - 2 - two.low)
-    } else {
-        Answer::Beyond
+    if n - 1 <= two.high {
+        return Answer::Beyond;
     }
+    let p = n - 2 - two.high;
+    let q = n - 2 - two.low;
+    Answer::TwoPlaces(p, q)
 }
 
 // What `locate` answers to checks that are not zero, by tables that a caller has taken.

@@ -1,7 +1,6 @@
 -- `places::one_of`: the half at the slot, moved by the logarithm of the power.
 -- Assumes nothing.
 use mathlib.Core.Path.{sym, _∙_}
-use native.Mathlib.Omega.{arith}
 use Rattle.algebra.specs.Field256.{smallMarking}
 use Rattle.algebra.proofs.Field256Laws.{fit256}
 use Rattle.laws.proofs.LocateSteps.{no-power, half-one}

@@ -1,8 +1,7 @@
 -- `places::slot`: behind all others for 0, else at the difference of the logarithms.
 -- Assumes nothing.
-use mathlib.Core.Path.{ap, subst, _∙_}
-use native.Mathlib.Omega.{arith}
-use Rattle.algebra.specs.Marking.{logAt, cubePart, Slot}
+use mathlib.Core.Path.{ap, _∙_}
+use Rattle.algebra.specs.Marking.{logAt, cubePart}
 use Rattle.algebra.specs.Field256.{smallMarking}
 use Rattle.algebra.proofs.PairLaws.{slot-zero, slot-some}
 use Rattle.algebra.proofs.Field256Laws.{fit256}

@@ -23,9 +23,6 @@ pub power-is : (e : ℕ) → power e ≡ iter e (turn 7 29) 1
 unfolding power timesA poly
 power-is e = refl
 
-pub power-small : (e : ℕ) → power e < 256
-power-small e = rw power-is (iter-lt 7 (lit< tt) e 1 (lit< tt))
-
 pub power-some : (e : ℕ) → power e ≢ 0
 power-some e z =
     let q : _≡_ {A = ℕ} 1 0 = iter-nonzero 7 29 (lit< tt) refl e 1 (lit< tt) (sym (power-is e) ∙ z) in

@@ -1,7 +1,7 @@
 -- `exports::probe_locate` meets its contract: what `locate` requires is tested, and its places have room.
 -- Assumes nothing.
 use mathlib.Core.Path.{_≡_, sym, _∙_}
-use mathlib.Core.Bool.{true, false}
+use mathlib.Core.Bool.{false}
 use native.Mathlib.Omega.{arith}
 use borrow.Author.Needs.{needs}
 use Rattle.rules.specs.Codes.{smallCode}

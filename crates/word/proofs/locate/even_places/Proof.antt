@@ -17,20 +17,19 @@ lone-requires c κs = search needs
 sub-if1 : tie.Need-sub-if1
 sub-if1 c = search needs
 
-sub-t10 : tie.Need-sub-t10
-sub-t10 c = search needs
+sub-p : tie.Need-sub-p
+sub-p c = search needs
 
-sub-t11 : tie.Need-sub-t11
-sub-t11 c = search needs
+sub-p-2 : tie.Need-sub-p-2
+sub-p-2 c = search needs
 
-sub-t12 : tie.Need-sub-t12
-sub-t12 c = search needs
+sub-t13 : tie.Need-sub-t13
+sub-t13 c = search needs
 
 returns : tie.Need-returns
 returns c =
     let a = c .before .before .args in
-    λ x f l o m.
-    ap answerOf (sym (even-one (a .n) (omega arith) (omega arith) x (a .w) f l m _ (c .before .lone .ensures) o (c .if1 .taken)))
+    λ x f l o m. ap answerOf (sym (even-one (a .n) (omega arith) (omega arith) x (a .w) f l m _ (c .before .lone .ensures) o (c .if1 .taken)))
 
 sub-pair : tie.Need-sub-pair
 sub-pair c = search needs
@@ -41,38 +40,40 @@ pair-requires c κs = search needs
 sub-if2 : tie.Need-sub-if2
 sub-if2 c = search needs
 
-sub-t14 : tie.Need-sub-t14
-sub-t14 c = search needs
-
-sub-t15 : tie.Need-sub-t15
-sub-t15 c = search needs
-
-sub-t16 : tie.Need-sub-t16
-sub-t16 c = search needs
-
-sub-t17 : tie.Need-sub-t17
-sub-t17 c =
-    let b = c .before .before in omega (arith, b .before .before .pair .ensures .found (b .if2 .taken) .0, b .if2 .taken)
-
 returns-2 : tie.Need-returns-2
 returns-2 c =
-    let b = c .before .before in
-    let d = b .before .before .before .before in
-    let a = d .before .args in
-    λ x f l o m.
-    ap answerOf
-    (sym
-    (even-two (a .n) (omega arith) (omega arith) x (a .w) f l m _ (d .lone .ensures) _ _ (b .before .before .pair .ensures) o (b .if2 .taken)))
-
-returns-3 : tie.Need-returns-3
-returns-3 c =
     let d = c .before .before .before .before in
     let a = d .before .args in
     λ x f l o m.
     ap answerOf
     (sym
     (even-beyond (a .n) (omega arith) (omega arith) x (a .w) f l m _ (d .lone .ensures) _ _ (c .before .before .pair .ensures) o
-    (omega (arith, c .before .before .before .if1 .left)) (omega (arith, c .if2 .left))))
+    (omega (arith, c .before .before .before .if1 .left)) (c .if2 .taken)))
+
+sub-p-3 : tie.Need-sub-p-3
+sub-p-3 c = search needs
+
+sub-p-4 : tie.Need-sub-p-4
+sub-p-4 c = search needs
+
+sub-q : tie.Need-sub-q
+sub-q c = search needs
+
+sub-q-2 : tie.Need-sub-q-2
+sub-q-2 c =
+    let b = c .before .before in
+    omega (arith, b .before .before .pair .ensures .found (omega (arith, b .if2 .left)) .0, b .if2 .left)
+
+returns-3 : tie.Need-returns-3
+returns-3 c =
+    let b = c .before .before in
+    let d = b .before .before .before .before in
+    let a = d .before .args in
+    λ x f l o m.
+    ap answerOf
+    (sym
+    (even-two (a .n) (omega arith) (omega arith) x (a .w) f l m _ (d .lone .ensures) _ _ (b .before .before .pair .ensures) o
+    (omega (arith, b .if2 .left))))
 
 pub even-places-spec : {M : Type 1} → statement M
 even-places-spec =
@@ -81,16 +82,16 @@ even-places-spec =
     sub-lone
     lone-requires
     sub-if1
-    sub-t10
-    sub-t11
-    sub-t12
+    sub-p
+    sub-p-2
+    sub-t13
     returns
     sub-pair
     pair-requires
     sub-if2
-    sub-t14
-    sub-t15
-    sub-t16
-    sub-t17
     returns-2
+    sub-p-3
+    sub-p-4
+    sub-q
+    sub-q-2
     returns-3)

@@ -17,24 +17,23 @@ lone-requires c κs = search needs
 sub-if1 : tie.Need-sub-if1
 sub-if1 c = search needs
 
-sub-t9 : tie.Need-sub-t9
-sub-t9 c = search needs
-
-sub-t10 : tie.Need-sub-t10
-sub-t10 c = search needs
-
 returns : tie.Need-returns
 returns c =
     let a = c .before .before .args in
-    λ x f l o m.
-    ap answerOf (sym (odd-one (a .n) (omega arith) (omega arith) x (a .w) f l m _ (c .before .lone .ensures) o (c .if1 .taken)))
+    λ x f l o m. ap answerOf (sym (odd-beyond (a .n) (omega arith) (omega arith) x (a .w) f l m _ (c .before .lone .ensures) o (c .if1 .taken)))
+
+sub-p : tie.Need-sub-p
+sub-p c = search needs
+
+sub-p-2 : tie.Need-sub-p-2
+sub-p-2 c = search needs
 
 returns-2 : tie.Need-returns-2
 returns-2 c =
     let a = c .before .before .args in
     λ x f l o m.
-    ap answerOf (sym (odd-beyond (a .n) (omega arith) (omega arith) x (a .w) f l m _ (c .before .lone .ensures) o (omega (arith, c .if1 .left))))
+    ap answerOf (sym (odd-one (a .n) (omega arith) (omega arith) x (a .w) f l m _ (c .before .lone .ensures) o (omega (arith, c .if1 .left))))
 
 pub odd-places-spec : {M : Type 1} → statement M
 odd-places-spec =
-    tie.close (tie.spec sub-lone lone-requires sub-if1 sub-t9 sub-t10 returns returns-2)
+    tie.close (tie.spec sub-lone lone-requires sub-if1 returns sub-p sub-p-2 returns-2)
