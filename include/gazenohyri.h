@@ -23,7 +23,7 @@
  *    the call is refused then, since no n has that length. Bytes need no alignment. The output's bytes need not be set before.
  *  - Input and output do not overlap, and no other thread writes the input or touches the output during the call.
  * The functions keep no state, allocate nothing and do no input or output, so any number of threads may call them at once.
- * They take less than 1 KiB of stack.
+ * They take less than 4 KiB of stack.
  */
 #ifndef GAZENOHYRI_H
 #define GAZENOHYRI_H

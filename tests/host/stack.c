@@ -8,7 +8,7 @@
 #include <stdlib.h>
 #include <sys/mman.h>
 
-enum { STACK = 1 << 18, PAINT = 0xC3, SPARED = 256, N = 256, MOST = 1024 }; /* MOST: what gazenohyri.h says */
+enum { STACK = 1 << 18, PAINT = 0xC3, SPARED = 256, N = 256, MOST = 4096 }; /* MOST: what gazenohyri.h says */
 
 static uint8_t data[GAZENOHYRI_GREATEST_DATA_BYTES], frame[GAZENOHYRI_GREATEST_FRAME_BYTES];
 static uint8_t received[GAZENOHYRI_GREATEST_FRAME_BYTES];

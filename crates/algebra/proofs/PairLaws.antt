@@ -116,7 +116,7 @@ module _ (m : Marking) (fit : Fit m) where
   -- ---- the half
 
   -- two that make 1: the table has one of them
-  half-of-one :
+  pub half-of-one :
       (i j : ℕ) → i < order m → j < order m → pow i ⊕ pow j ≡ 1
       → (halfAt m (slotOf m (pow (3 * i) ⊕ pow (3 * j))) ≡ i) ⊎ (halfAt m (slotOf m (pow (3 * i) ⊕ pow (3 * j))) ≡ j)
   unfolding isHalf iter

@@ -1,7 +1,7 @@
 -- RULES 1: the field, its tables, and g.
 -- Assumes nothing.
-use mathlib.Core.Path.{_≡_, refl, _∙_}
-use mathlib.Core.Logic.{_≢_}
+use mathlib.Core.Path.{_≡_, refl, sym, _∙_}
+use mathlib.Core.Logic.{_≢_, _⊎_}
 use mathlib.Core.List.{List, [], _∷_}
 use Prim.Native.Nat.{ℕ, suc, _+_, _*_, _^_, _≤_, _<_}
 use native.Mathlib.Omega.{arith}
@@ -13,13 +13,16 @@ use Rattle.algebra.specs.Register.{iter, turn}
 use Rattle.algebra.specs.Tables.{tab, tabFrom}
 use Rattle.algebra.specs.Remainder.{binary, times}
 use Rattle.algebra.specs.Sums.{xsum}
-use Rattle.algebra.specs.Field256.{powers, logs}
+use Rattle.algebra.specs.Marking.{remainderPart, powerPart, cubePart, zPower, markAt, halfAt, slotOf}
+use Rattle.algebra.specs.Field256.{powers, logs, smallMarking}
 use Rattle.algebra.proofs.XorLaws.{⊕-lt, ⊕-assoc, ⊕-comm, ⊕-zero, ⊕-self}
 use Rattle.algebra.proofs.LinearLaws.{lin-additive, agrees}
 use Rattle.algebra.proofs.RegisterLaws.{one-lt}
 use Rattle.algebra.proofs.RegisterProduct.{multiply, multiply-lt, multiply-assoc, multiply-comm, one-multiply, multiply-inverse, multiply-none, multiply-⊕}
 use Rattle.algebra.proofs.Inverse.{rebuilt, inverse-tested}
-use Rattle.algebra.proofs.Field256Laws.{tables256, round256}
+use Rattle.algebra.proofs.MarkLaws.{remainder-at, power-at, cube-at}
+use Rattle.algebra.proofs.PairLaws.{half-of-one}
+use Rattle.algebra.proofs.Field256Laws.{fit256, tables256, round256}
 use Rattle.rules.specs.Field.{poly, minimal₁, minimal₃, timesA, power, logarithm, product, valueAt}
 use Rattle.rules.specs.Codes.{g}
 use Rattle.rules.proofs.Laws.FieldLaws.{power-is, logarithm-small, logarithm-zero, power-logarithm, product-powers, product-zero-left, product-zero-right}
@@ -68,6 +71,19 @@ pub record FieldPromise : Type 0 where
   pub least : (x : ℕ) → 1 ≤ x → x < 256 → lowValue 3 x ≢ 0
   -- the rule of the two tables, shown of each table as a whole
   pub tables : Tables 7 29 powers logs
+  -- z^16 leaves the number by which the marks go
+  pub lower : g ≡ 2 ^ 16 + smallMarking .low
+  -- the mark of an exponent is made of z^e mod g, a^e and a^3e
+  pub marks :
+      (e : ℕ) → e < 255
+      → (remainderPart smallMarking (markAt smallMarking e) ≡ zPower smallMarking e)
+      × (powerPart smallMarking (markAt smallMarking e) ≡ power e)
+      × (cubePart smallMarking (markAt smallMarking e) ≡ power (3 * e))
+  -- where a^i + a^j is 1, the table of halves has i or j at the slot of a^3i + a^3j
+  pub halves :
+      (i j : ℕ) → i < 255 → j < 255 → power i ⊕ power j ≡ 1
+      → (halfAt smallMarking (slotOf smallMarking (power (3 * i) ⊕ power (3 * j))) ≡ i)
+      ⊎ (halfAt smallMarking (slotOf smallMarking (power (3 * i) ⊕ power (3 * j))) ≡ j)
   -- the logarithm of each byte but 0 is the exponent below 255 of which it is the power; 0 has none, and 0 stands for it
   pub logarithms : (x : ℕ) → x ≢ 0 → x < 256 → (logarithm x < 255) × (power (logarithm x) ≡ x)
   pub none : logarithm 0 ≡ 0
@@ -120,6 +136,14 @@ field-promise =
       root₃ = refl;
       least = least-here;
       tables = tables256;
+      lower = refl;
+      marks = λ e h. (
+        remainder-at smallMarking fit256 e h,
+        power-at smallMarking fit256 e h ∙ sym (power-is e),
+        cube-at smallMarking fit256 e h ∙ sym (power-is (3 * e)),
+      );
+      halves = λ i j hi hj e.
+          rw (power-is (3 * i), power-is (3 * j)) (half-of-one smallMarking fit256 i j hi hj (rw (power-is i, power-is j) at e));
       logarithms = λ x n h. (logarithm-small x, power-logarithm x n h);
       none = logarithm-zero;
       products = product-powers;
