@@ -16,7 +16,7 @@ use Rattle.algebra.proofs.LinearLaws.{agrees}
 use Rattle.algebra.proofs.MarkLaws.{Fit}
 use Rattle.algebra.proofs.LogTableLaws.{powers-at, round, powers-logs, logs-lt, power-injective}
 
--- the one place where the tables are computed with
+-- the one place where the tests are computed
 pub fit256 : Fit smallMarking
 unfolding marks logs halves follows inverts iter turn lin tab tabFrom allBelow agrees markOf isHalf _⊕_
 fit256 =

@@ -7,7 +7,7 @@ use Prim.Native.Nat.{ℕ, zero, suc, _+_, _*_, _-_, _/_, _%_, _^_, _<_}
 use native.Mathlib.Nat.{one-mul}
 use native.Mathlib.Omega.{arith}
 use lib.Dec.{T, eqb, eqb→eq, ltb, ltb→lt}
-use lib.ListN.{length, getD}
+use lib.ListN.{length, getD, length-map}
 use lib.Pow.{split}
 use Rattle.algebra.specs.Xor.{_⊕_}
 use Rattle.algebra.specs.Register.{iter}
@@ -18,7 +18,7 @@ use Rattle.algebra.specs.Marking.{Marking, order, timesA, timesZ, aPower
 use Rattle.algebra.proofs.XorLaws.{⊕-div, ⊕-mod}
 use Rattle.algebra.proofs.LinearLaws.{lin-additive, additive-compose, additive-id, agree, agrees, agrees→}
 use Rattle.algebra.proofs.RegisterLaws.{iter-mul, iter-lt, one-lt, carry-tested}
-use Rattle.algebra.proofs.LogTableLaws.{follows-at, count-powers, powers-at}
+use Rattle.algebra.proofs.LogTableLaws.{follows-at, count-powers}
 
 -- what makes the lists of a marking its tables: tests that compute
 pub record Fit (m : Marking) : Type 0 where
@@ -37,10 +37,6 @@ pub record Fit (m : Marking) : Type 0 where
       T (agrees (suc (m .last)) (λ x. cubePart m (markOf m (timesZ m x))) (λ x. iter 3 (timesA m) (cubePart m (markOf m x))))
   -- the halves
   pub pairs : T (allBelow (order m - 1) (λ i. isHalf m (suc i)))
-
-map-length : (f : ℕ → ℕ) (xs : List ℕ) → length (map f xs) ≡ length xs
-map-length f [] = refl
-map-length f (x ∷ xs) = ap suc (map-length f xs)
 
 map-at : (f : ℕ → ℕ) (xs : List ℕ) (i : ℕ) → i < length xs → getD (map f xs) i 0 ≡ f (getD xs i 0)
 map-at f [] i h = absurd (omega arith)
@@ -73,7 +69,7 @@ module _ (m : Marking) where
   parts-same w v e₀ e₁ e₃ =
       by-parts (suc (m .last)) w v (by-parts (suc (m .top)) (w / 2 ^ suc (m .last)) (v / 2 ^ suc (m .last)) e₃ e₁) e₀
 
-  -- the sums that a remainder tells of the places of its word: number 0 is S₁, number 1 is S₃
+  -- the sums that a remainder tells of the places of its word: number 0 is that of a^e, number 1 that of a^3e
   abbrev pub sumOf : ℕ → ℕ → ℕ
   sumOf zero = λ x. powerPart m (markOf m x)
   sumOf (suc r) = λ x. cubePart m (markOf m x)
@@ -89,32 +85,27 @@ module _ (m : Marking) (fit : Fit m) where
   low-small = ltb→lt (m .low) (2 ^ suc (m .last)) (fit .narrow)
 
   marks-count : length (m .marks) ≡ order m
-  marks-count = omega (arith, map-length (powerPart m) (m .marks), count-powers (m .top) (m .tap) (powersOf m) (m .logs) (fit .tables))
+  marks-count = omega (arith, length-map (m .marks) (powerPart m), count-powers (m .top) (m .tap) (powersOf m) (m .logs) (fit .tables))
 
   -- there is a power
   some : 0 < order m
   some = omega (arith, one-lt (m .top))
 
   module _ (e : ℕ) (h : e < order m) where
-    inside : e < length (m .marks)
-    inside = omega (arith, marks-count)
+    -- a part of the marks that follows a step is, at e, that many steps from 1
+    part-at : (part step : ℕ → ℕ) → T (follows step 1 (map part (m .marks))) → part (markAt m e) ≡ iter e step 1
+    part-at part step t =
+        sym (map-at part (m .marks) e (omega (arith, marks-count)))
+        ∙ follows-at step 1 (map part (m .marks)) t e (omega (arith, marks-count, length-map (m .marks) part))
 
-    -- the parts of the mark of e
     pub remainder-at : remainderPart m (markAt m e) ≡ zPower m e
-    remainder-at =
-        sym (map-at (remainderPart m) (m .marks) e inside)
-        ∙ follows-at (timesZ m) 1 (map (remainderPart m) (m .marks)) (fit .remainders) e
-        (omega (arith, inside, map-length (remainderPart m) (m .marks)))
+    remainder-at = part-at (remainderPart m) (timesZ m) (fit .remainders)
 
     pub power-at : powerPart m (markAt m e) ≡ aPower m e
-    power-at = sym (map-at (powerPart m) (m .marks) e inside) ∙ powers-at (m .top) (m .tap) (powersOf m) (m .logs) (fit .tables) e h
+    power-at = part-at (powerPart m) (timesA m) (fit .tables .chain)
 
     pub cube-at : cubePart m (markAt m e) ≡ aPower m (3 * e)
-    cube-at =
-        sym (map-at (cubePart m) (m .marks) e inside)
-        ∙ follows-at (iter 3 (timesA m)) 1 (map (cubePart m) (m .marks)) (fit .cubes) e
-        (omega (arith, inside, map-length (cubePart m) (m .marks)))
-        ∙ sym (iter-mul 3 e (timesA m) 1)
+    cube-at = part-at (cubePart m) (iter 3 (timesA m)) (fit .cubes) ∙ sym (iter-mul 3 e (timesA m) 1)
 
   -- a remainder's mark has the remainder
   pub remainder-back : (x : ℕ) → x < 2 ^ suc (m .last) → remainderPart m (markOf m x) ≡ x

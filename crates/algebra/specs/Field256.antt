@@ -83,6 +83,7 @@ halves =
     0 ∷ 29 ∷ 0 ∷ 0 ∷ 0 ∷ 0 ∷ 19 ∷ 60 ∷ 142 ∷ 0 ∷ 0 ∷ 30 ∷ 0 ∷ 15 ∷ 135 ∷ 85 ∷
     []
 
+-- the marking of the small code
 abbrev pub smallMarking : Marking
 smallMarking = record { top = 7; tap = 29; last = 15; low = 28515; marks = marks; logs = logs; halves = halves }
 

@@ -12,7 +12,7 @@ use Rattle.algebra.specs.Linear.{lin}
 use Rattle.algebra.specs.Tables.{tab}
 
 pub record Marking : Type 0 where
-  -- 'times a' is turn top tap, and 'times z' is turn last low
+  -- 'times a' is turn top tap, and 'times z' modulo g is turn last low
   pub top : ℕ
   pub tap : ℕ
   pub last : ℕ
@@ -26,6 +26,7 @@ pub record Marking : Type 0 where
 abbrev pub order : Marking → ℕ
 order m = 2 ^ suc (m .top) - 1
 
+-- one step: a number of the field times a, and a remainder by g times z
 abbrev pub timesA : Marking → ℕ → ℕ
 timesA m = turn (m .top) (m .tap)
 
@@ -85,6 +86,6 @@ isHalf m i =
 abbrev pub Reduced : Marking → ℕ → ℕ → Type 0
 Reduced m x e = (x ≡ e) ⊎ (x ≡ e + order m)
 
--- k is the slot of s over a^3l: of the number that 3 l steps lead to s
+-- k is the slot of s over a^3l, that is of the number from which 3 l steps lead to s
 abbrev pub Slot : Marking → ℕ → ℕ → ℕ → Type 0
 Slot m l s k = (t : ℕ) → t < 2 ^ suc (m .top) → iter (3 * l) (timesA m) t ≡ s → k ≡ slotOf m t

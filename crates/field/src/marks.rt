@@ -1,8 +1,18 @@
 // The marks of places: for each exponent e what g leaves of z^e in bits 0 to 15, a^e in bits 16 to 23, and a^3e in bits 24 to 31.
 ghost use mathlib.Core.Path.{_≡_};
 ghost use Prim.Native.Nat.{_<_};
-ghost use Rattle.algebra.specs.Marking.{order, markAt};
+ghost use Rattle.algebra.specs.Marking.{order, markAt, powerPart, cubePart};
 ghost use Rattle.algebra.specs.Field256.{smallMarking};
+
+// The powers of a come round after so many.
+pub const ORDER: usize = 255;
+
+const ELEMENTS: u32 = 256;
+
+// The lowest bit of a mark's power, and of its cube.
+const POWERS_BEGIN: u32 = 65536;
+
+const CUBES_BEGIN: u32 = 16777216;
 
 const MARKS: [u32; 255] = [
     16842753,
@@ -268,9 +278,23 @@ pub fn table() -> [u32; 255]
     MARKS
 }
 
-pub fn place(marks: &[u32; 255], e: usize) -> u32
+pub fn mark_at(marks: &[u32; 255], e: usize) -> u32
     requires { ⌜ (now marks ≡ smallMarking .marks) × (e < order smallMarking) ⌝ }
     ensures { λ r. ⌜ r ≡ markAt smallMarking e ⌝ }
 {
     marks[e]
+}
+
+// a^e in the mark of e.
+pub fn power_part(mark: u32) -> usize
+    ensures { λ r. ⌜ (r ≡ powerPart smallMarking mark) × (r < 256) ⌝ }
+{
+    (mark / POWERS_BEGIN % ELEMENTS) as usize
+}
+
+// a^3e in it.
+pub fn cube_part(mark: u32) -> usize
+    ensures { λ r. ⌜ (r ≡ cubePart smallMarking mark) × (r < 256) ⌝ }
+{
+    (mark / CUBES_BEGIN) as usize
 }

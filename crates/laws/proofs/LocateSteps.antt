@@ -8,14 +8,14 @@ use native.Mathlib.Numerals.{add-one}
 use native.Mathlib.Omega.{arith}
 use lib.Pow.{pow-pos}
 use Rattle.algebra.specs.Xor.{_⊕_}
-use Rattle.algebra.specs.Linear.{lin}
+use Rattle.algebra.specs.Linear.{Additive, lin}
 use Rattle.algebra.specs.Tables.{tab, tabFrom}
 use Rattle.algebra.specs.Marking.{Marking, order, aPower, powerPart, cubePart, markAt, logAt, halfAt, markOf, Reduced, Slot}
 use Rattle.algebra.proofs.XorLaws.{⊕-self, ⊕-zero, zero-⊕, ⊕-assoc, ⊕-comm, ⊕-cancel, ⊕-zero→≡}
 use Rattle.algebra.proofs.LinearLaws.{additive-zero}
 use Rattle.algebra.proofs.MarkLaws.{Fit, power-additive, cube-additive, power-at, cube-at}
 use Rattle.algebra.proofs.PairLaws.{pow-some, pow-same, log-pow, log-small, pow-log, half-found}
-use Rattle.laws.specs.Search.{NoLone, Lone, NoPair, Pair, OneOf}
+use Rattle.laws.specs.Search.{NoLone, Lone, NoPair, Pair, EitherOf}
 
 -- ---- the mark of a remainder, from the lowest bit up
 
@@ -83,11 +83,19 @@ module _ (m : Marking) (fit : Fit m) where
   -- ---- one of two places: by the half at the slot of the quotient
 
   module _ (w : ℕ) where
-    power-of-two : (f g : ℕ) → g < f → f < order m → w ≡ markAt m f ⊕ markAt m g → powerPart m w ≡ aPower m f ⊕ aPower m g
-    power-of-two f g l h q =
-        ap (powerPart m) q ∙ power-additive m (markAt m f) (markAt m g) ∙ ap₂ _⊕_ (power-at m fit f h) (power-at m fit g (omega arith))
+    -- a part that goes by ⊕, of two marks
+    part-of-two :
+        (part at : ℕ → ℕ) → Additive part → ((e : ℕ) → e < order m → part (markAt m e) ≡ at e) → (f g : ℕ) → g < f → f < order m
+        → w ≡ markAt m f ⊕ markAt m g → part w ≡ at f ⊕ at g
+    part-of-two part at add is f g l h q = ap part q ∙ add (markAt m f) (markAt m g) ∙ ap₂ _⊕_ (is f h) (is g (omega arith))
 
-    pub no-power : powerPart m w ≡ 0 → OneOf m w (order m)
+    power-of-two : (f g : ℕ) → g < f → f < order m → w ≡ markAt m f ⊕ markAt m g → powerPart m w ≡ aPower m f ⊕ aPower m g
+    power-of-two = part-of-two (powerPart m) (aPower m) (power-additive m) (power-at m fit)
+
+    cube-of-two : (f g : ℕ) → g < f → f < order m → w ≡ markAt m f ⊕ markAt m g → cubePart m w ≡ aPower m (3 * f) ⊕ aPower m (3 * g)
+    cube-of-two = part-of-two (cubePart m) (λ e. aPower m (3 * e)) (cube-additive m) (cube-at m fit)
+
+    pub no-power : powerPart m w ≡ 0 → EitherOf m w (order m)
     no-power z =
         record {
           apart = λ h. absurd (omega arith);
@@ -95,13 +103,9 @@ module _ (m : Marking) (fit : Fit m) where
               let k = pow-same m fit f g h (omega arith) (⊕-zero→≡ (sym (power-of-two f g l h q) ∙ z)) in absurd (omega (arith, k));
         }
 
-    cube-of-two : (f g : ℕ) → g < f → f < order m → w ≡ markAt m f ⊕ markAt m g → cubePart m w ≡ aPower m (3 * f) ⊕ aPower m (3 * g)
-    cube-of-two f g l h q =
-        ap (cubePart m) q ∙ cube-additive m (markAt m f) (markAt m g) ∙ ap₂ _⊕_ (cube-at m fit f h) (cube-at m fit g (omega arith))
-
     pub half-one :
         (s l c k e : ℕ) → s ≡ powerPart m w → s ≢ 0 → l ≡ logAt m s → c ≡ cubePart m w → Slot m l c k → e < order m
-        → Reduced m (halfAt m k + l) e → OneOf m w e
+        → Reduced m (halfAt m k + l) e → EitherOf m w e
     half-one s l c k e qs ns ql qc slot he r =
         let hs : s < 2 ^ suc (m .top) = rw qs (mod-lt (w / 2 ^ suc (m .last)) (pow-pos (suc (m .top)))) in
         record {
@@ -114,7 +118,7 @@ module _ (m : Marking) (fit : Fit m) where
 
   -- ---- two places: one of them, and the other by the mark that is left
 
-  module _ (bound w e : ℕ) (small : bound ≤ order m) (one : OneOf m w e) where
+  module _ (bound w e : ℕ) (small : bound ≤ order m) (one : EitherOf m w e) where
     pub pair-far : (f : ℕ) → bound ≤ e → Pair m bound w bound f
     pair-far f k =
         record {

@@ -1,6 +1,6 @@
 -- From the checks of a word of the small code to its answer: what each way out of the search for it says.
 -- Assumes nothing.
-use mathlib.Core.Path.{_≡_, sym, ap, ap₂, _∙_}
+use mathlib.Core.Path.{_≡_, sym, _∙_}
 use mathlib.Core.Logic.{_≢_}
 use mathlib.Core.List.{List, [], _∷_}
 use mathlib.Core.Option.{some, none}
@@ -12,7 +12,6 @@ use Rattle.algebra.specs.Xor.{_⊕_}
 use Rattle.algebra.specs.Sums.{xsum}
 use Rattle.algebra.specs.Marking.{zPower, markAt, markOf}
 use Rattle.algebra.specs.Field256.{smallMarking}
-use Rattle.algebra.proofs.XorLaws.{⊕-zero}
 use Rattle.algebra.proofs.MarkLaws.{one-marked, two-marked}
 use Rattle.algebra.proofs.Field256Laws.{fit256}
 use Rattle.rules.specs.Codes.{smallCode}
@@ -22,22 +21,11 @@ use Rattle.rules.proofs.Promises.Distance.{mends-small}
 use Rattle.laws.specs.Located.{checksEnd, located}
 use Rattle.laws.specs.Search.{NoLone, Lone, NoPair, Pair}
 use Rattle.laws.proofs.PlaceLaws.{placeValue, places-located, none-located}
-use Rattle.laws.proofs.PlaceValues.{value-front, value-last, both-odd}
+use Rattle.laws.proofs.PlaceValues.{last-sum, front-sum, with-last-sum, fronts-sum}
 
 -- z^e mod g
 abbrev zp : ℕ → ℕ
 zp = zPower smallMarking
-
--- ---- what one place or two ⊕ to
-
-one-place : (n p v : ℕ) → placeValue smallCode n p ≡ v → xsum (placeValue smallCode n) (p ∷ []) ≡ v
-unfolding xsum
-one-place n p v q = ⊕-zero (placeValue smallCode n p) ∙ q
-
-two-places :
-    (n p q v u : ℕ) → placeValue smallCode n p ≡ v → placeValue smallCode n q ≡ u → xsum (placeValue smallCode n) (p ∷ q ∷ []) ≡ v ⊕ u
-unfolding xsum
-two-places n p q v u a b = ap₂ _⊕_ a (⊕-zero (placeValue smallCode n q) ∙ b)
 
 -- ---- the answer to checks c
 
@@ -46,34 +34,14 @@ module _ (n : ℕ) (h : 18 ≤ n) (b : n ≤ 256) (c : ℕ) where
   unfolding xsum
   located-none q = places-located smallCode mends-small n h b c [] tt (omega arith) (sym q)
 
+  one-located : (p : ℕ) → p < n → xsum (placeValue smallCode n) (p ∷ []) ≡ c → located smallCode n c ≡ some (p ∷ [])
+  one-located p l q = places-located smallCode mends-small n h b c (p ∷ []) (omega arith, l, tt) (omega arith) q
+
+  two-located : (p q : ℕ) → p < q → q < n → xsum (placeValue smallCode n) (p ∷ q ∷ []) ≡ c → located smallCode n c ≡ some (p ∷ q ∷ [])
+  two-located p q l k e = places-located smallCode mends-small n h b c (p ∷ q ∷ []) (omega arith, omega arith, (l, k, tt)) (omega arith) e
+
   pub located-last : c ≡ 1 → located smallCode n c ≡ some ((n - 1) ∷ [])
-  located-last q =
-      places-located smallCode mends-small n h b c ((n - 1) ∷ []) (omega arith, omega arith, tt) (omega arith)
-      (one-place n (n - 1) 1 (value-last n (n - 1) (omega arith)) ∙ sym q)
-
-  module _ (e : ℕ) (le : e < n - 1) where
-    at-front : placeValue smallCode n (n - 2 - e) ≡ 2 * zp e + 1
-    at-front = value-front n (n - 2 - e) e (omega arith)
-
-    located-one : c ≡ 2 * zp e + 1 → located smallCode n c ≡ some ((n - 2 - e) ∷ [])
-    located-one q =
-        places-located smallCode mends-small n h b c ((n - 2 - e) ∷ []) (omega arith, omega arith, tt) (omega arith)
-        (one-place n (n - 2 - e) (2 * zp e + 1) at-front ∙ sym q)
-
-    located-with-last : c ≡ 2 * zp e → located smallCode n c ≡ some ((n - 2 - e) ∷ (n - 1) ∷ [])
-    located-with-last q =
-        places-located smallCode mends-small n h b c ((n - 2 - e) ∷ (n - 1) ∷ [])
-        (omega arith, omega arith, (omega arith, omega arith, tt)) (omega arith)
-        (two-places n (n - 2 - e) (n - 1) (2 * zp e + 1) (2 * 0 + 1) at-front (value-last n (n - 1) (omega arith))
-        ∙ both-odd (zp e) 0 ∙ ap (λ x. 2 * x) (⊕-zero (zp e)) ∙ sym q)
-
-  located-two :
-      (e f : ℕ) → f < e → e < n - 1 → c ≡ 2 * (zp e ⊕ zp f) → located smallCode n c ≡ some ((n - 2 - e) ∷ (n - 2 - f) ∷ [])
-  located-two e f l le q =
-      places-located smallCode mends-small n h b c ((n - 2 - e) ∷ (n - 2 - f) ∷ [])
-      (omega arith, omega arith, (omega arith, omega arith, tt)) (omega arith)
-      (two-places n (n - 2 - e) (n - 2 - f) (2 * zp e + 1) (2 * zp f + 1) (at-front e le) (at-front f (omega arith))
-      ∙ both-odd (zp e) (zp f) ∙ sym q)
+  located-last q = one-located (n - 1) (omega arith) (last-sum n (n - 1) (omega arith) ∙ sym q)
 
   -- nothing is located where no place has these checks, with the last or without, and no two others
   located-beyond :
@@ -83,29 +51,21 @@ module _ (n : ℕ) (h : 18 ≤ n) (b : n ≤ 256) (c : ℕ) where
   located-beyond front lone two = none-located smallCode sound-small n h c go
     where
       single : (p : ℕ) → p < n → Dec (p + 1 ≡ n) → xsum (placeValue smallCode n) (p ∷ []) ≢ c
-      single p l (yes d) q = omega (arith, sym (one-place n p 1 (value-last n p d)) ∙ q)
+      single p l (yes d) q = omega (arith, sym (last-sum n p d) ∙ q)
       single p l (no d) q =
           let e : ℕ = n - 2 - p in
-          let k : 2 * zp e + 1 ≡ c = sym (one-place n p (2 * zp e + 1) (value-front n p e (omega (arith, d)))) ∙ q in
+          let k : 2 * zp e + 1 ≡ c = sym (front-sum n p e (omega (arith, d))) ∙ q in
           lone e (omega (arith, d)) (omega (arith, k))
 
       double : (p q : ℕ) → p < q → q < n → Dec (q + 1 ≡ n) → xsum (placeValue smallCode n) (p ∷ q ∷ []) ≢ c
       double p q l l′ (yes d) r =
           let e : ℕ = n - 2 - p in
-          let k : 2 * zp e ≡ c =
-          sym
-          (two-places n p q (2 * zp e + 1) (2 * 0 + 1) (value-front n p e (omega arith)) (value-last n q d)
-          ∙ both-odd (zp e) 0 ∙ ap (λ x. 2 * x) (⊕-zero (zp e)))
-          ∙ r in
+          let k : 2 * zp e ≡ c = sym (with-last-sum n p q e (omega arith) d) ∙ r in
           lone e (omega arith) (omega (arith, k))
       double p q l l′ (no d) r =
           let e : ℕ = n - 2 - p in
           let f : ℕ = n - 2 - q in
-          let k : 2 * (zp e ⊕ zp f) ≡ c =
-          sym
-          (two-places n p q (2 * zp e + 1) (2 * zp f + 1) (value-front n p e (omega arith)) (value-front n q f (omega (arith, d)))
-          ∙ both-odd (zp e) (zp f))
-          ∙ r in
+          let k : 2 * (zp e ⊕ zp f) ≡ c = sym (fronts-sum n p q e f (omega arith) (omega (arith, d))) ∙ r in
           two (omega (arith, k)) e f (omega (arith, d)) (omega arith) (omega (arith, k))
 
       go : (ps : List ℕ) → Rising 0 n ps → length ps ≤ 2 → xsum (placeValue smallCode n) ps ≢ c
@@ -130,14 +90,19 @@ module _ (n : ℕ) (h : 18 ≤ n) (b : n ≤ 256) (c : ℕ) where
     module _ (e : ℕ) (lone : Lone smallMarking (n - 1) w e) where
       -- odd: one place, or more than two
       pub odd-one : c % 2 ≡ 1 → e < n - 1 → located smallCode n c ≡ some ((n - 2 - e) ∷ [])
-      odd-one o l = located-one e l (let k = place-of e l (lone .found l) in omega (arith, k))
+      odd-one o l =
+          let k = place-of e l (lone .found l) in
+          one-located (n - 2 - e) (omega arith) (front-sum n (n - 2 - e) e (omega arith) ∙ omega (arith, k))
 
       pub odd-beyond : c % 2 ≡ 1 → n - 1 ≤ e → located smallCode n c ≡ none
       odd-beyond o l = located-beyond front (no-place (lone .none l)) (λ z. absurd (omega arith))
 
       -- even: the last and one other, two others, or more than two
       pub even-one : c % 2 ≡ 0 → e < n - 1 → located smallCode n c ≡ some ((n - 2 - e) ∷ (n - 1) ∷ [])
-      even-one o l = located-with-last e l (let k = place-of e l (lone .found l) in omega (arith, k))
+      even-one o l =
+          let k = place-of e l (lone .found l) in
+          two-located (n - 2 - e) (n - 1) (omega arith) (omega arith)
+          (with-last-sum n (n - 2 - e) (n - 1) e (omega arith) (omega arith) ∙ omega (arith, k))
 
       module _ (high low : ℕ) (pair : Pair smallMarking (n - 1) w high low) where
         pub even-two : c % 2 ≡ 0 → high < n - 1 → located smallCode n c ≡ some ((n - 2 - high) ∷ (n - 2 - low) ∷ [])
@@ -145,7 +110,8 @@ module _ (n : ℕ) (h : 18 ≤ n) (b : n ≤ 256) (c : ℕ) where
             let t = pair .found l in
             let k : c / 2 ≡ zp high ⊕ zp low =
             two-marked smallMarking fit256 (c / 2) high low (omega arith) (omega arith) (omega (arith, t .0)) .0 (sym mark ∙ t .1) in
-            located-two high low (t .0) l (omega (arith, k))
+            two-located (n - 2 - high) (n - 2 - low) (omega (arith, t .0)) (omega arith)
+            (fronts-sum n (n - 2 - high) (n - 2 - low) high low (omega arith) (omega (arith, t .0)) ∙ omega (arith, k))
 
         pub even-beyond : c % 2 ≡ 0 → n - 1 ≤ e → n - 1 ≤ high → located smallCode n c ≡ none
         even-beyond o l l′ = located-beyond front (no-place (lone .none l)) (λ z. no-two (pair .none l′))

@@ -2,25 +2,19 @@
 // below a bound.
 use field::halves::half;
 use field::logs::exponent;
-use field::marks::place;
+use field::marks::ORDER;
+use field::marks::cube_part;
+use field::marks::mark_at;
+use field::marks::power_part;
 ghost use mathlib.Core.Path.{_≡_};
 ghost use Prim.Native.Nat.{_*_, _≤_, _<_};
-ghost use Rattle.algebra.specs.Marking.{order, powerPart, cubePart, markOf, Reduced, Slot};
+ghost use Rattle.algebra.specs.Marking.{order, markOf, Reduced, Slot};
 ghost use Rattle.algebra.specs.Field256.{smallMarking};
-ghost use Rattle.laws.specs.Search.{Lone, OneOf, Pair};
+ghost use Rattle.laws.specs.Search.{Lone, EitherOf, Pair};
 
 const REMAINDER_BITS: usize = 16;
 
-// The powers of a come round after so many.
-const ORDER: usize = 255;
-
-// The bits of a mark: above the first the power begins, above the second the cube.
-const POWERS_BEGIN: u32 = 65536;
-
-const CUBES_BEGIN: u32 = 16777216;
-
-const ELEMENTS: u32 = 256;
-
+// The exponents of two places. The higher exponent is the lower place.
 pub struct Two {
     pub high: usize,
     pub low: usize,
@@ -34,24 +28,13 @@ pub fn mark_of(marks: &[u32; 255], remainder: u32) -> u32
     let mut left = remainder;
     let mut w: u32 = 0;
     for i in 0..REMAINDER_BITS {
-        w = w ^ left % 2 * place(marks, i);
+        w = w ^ left % 2 * mark_at(marks, i);
         left = left / 2;
     }
     w
 }
 
-fn power_part(w: u32) -> usize
-    ensures { λ r. ⌜ (r ≡ powerPart smallMarking w) × (r < 256) ⌝ }
-{
-    (w / POWERS_BEGIN % ELEMENTS) as usize
-}
-
-fn cube_part(w: u32) -> usize
-    ensures { λ r. ⌜ (r ≡ cubePart smallMarking w) × (r < 256) ⌝ }
-{
-    (w / CUBES_BEGIN) as usize
-}
-
+// An exponent with the same power, below the order.
 fn reduced(x: usize) -> usize
     requires { ⌜ x < 2 * order smallMarking ⌝ }
     ensures { λ e. ⌜ (e < order smallMarking) × Reduced smallMarking x e ⌝ }
@@ -72,7 +55,7 @@ pub fn lone(marks: &[u32; 255], logs: &[u8; 256], bound: usize, w: u32) -> usize
     if bound <= e {
         return bound; // a place that was cut away
     }
-    let mark = place(marks, e);
+    let mark = mark_at(marks, e);
     if mark != w {
         return bound;
     }
@@ -87,14 +70,14 @@ fn slot(marks: &[u32; 255], logs: &[u8; 256], l: usize, cubes: usize) -> usize
     if cubes == 0 {
         return ORDER;
     }
-    let cube = exponent(logs, cube_part(place(marks, l)));
-    reduced(exponent(logs, cubes) + (ORDER - cube))
+    let cube_log = exponent(logs, cube_part(mark_at(marks, l)));
+    reduced(exponent(logs, cubes) + (ORDER - cube_log))
 }
 
-// One of the two places whose marks add to this, where there are two.
+// One of the two places whose marks add to this, where there are two; else the order, or any exponent.
 fn one_of(marks: &[u32; 255], logs: &[u8; 256], halves: &[u8; 256], w: u32) -> usize
     requires { ⌜ (now marks ≡ smallMarking .marks) × (now logs ≡ smallMarking .logs) × (now halves ≡ smallMarking .halves) ⌝ }
-    ensures { λ e. ⌜ OneOf smallMarking w e ⌝ }
+    ensures { λ e. ⌜ EitherOf smallMarking w e ⌝ }
 {
     let power = power_part(w);
     if power == 0 {
@@ -104,7 +87,7 @@ fn one_of(marks: &[u32; 255], logs: &[u8; 256], halves: &[u8; 256], w: u32) -> u
     reduced(half(halves, slot(marks, logs, l, cube_part(w))) + l)
 }
 
-// The two places whose marks add to this; the higher is the bound where there are none.
+// The two places whose marks add to this; the higher exponent is the bound where there are none.
 pub fn pair(marks: &[u32; 255], logs: &[u8; 256], halves: &[u8; 256], bound: usize, w: u32) -> Two
     requires { ⌜ (now marks ≡ smallMarking .marks) × (now logs ≡ smallMarking .logs) × (now halves ≡ smallMarking .halves) × (bound ≤ order smallMarking) ⌝ }
     ensures { λ r. ⌜ Pair smallMarking bound w (r .high) (r .low) ⌝ }
@@ -116,7 +99,7 @@ pub fn pair(marks: &[u32; 255], logs: &[u8; 256], halves: &[u8; 256], bound: usi
             low: bound,
         };
     }
-    let f = lone(marks, logs, bound, w ^ place(marks, e));
+    let f = lone(marks, logs, bound, w ^ mark_at(marks, e));
     if e < f {
         Two { high: f, low: e }
     } else {

@@ -2,7 +2,9 @@
 use crate::pack::pack_answer;
 use crate::pack::pack_said;
 use field::logs::exponent;
-use field::marks::place;
+use field::marks::ORDER;
+use field::marks::mark_at;
+use field::marks::power_part;
 use frame::row::row;
 use word::decode::decode_word;
 use word::locate::locate;
@@ -14,19 +16,12 @@ ghost use Rattle.probe.specs.Calls.{DecodesWordPacked, CopiesRow, packed
 // All checks lie below it.
 const CHECKS_END: u32 = 131072;
 
-// The powers of a come round after so many; in a mark they begin above this bit, and are of so many elements.
-const ORDER: usize = 255;
-
-const POWERS_BEGIN: u32 = 65536;
-
-const ELEMENTS: u32 = 256;
-
 #[no_mangle]
 pub extern "C" fn probe_power(e: usize) -> u8
     ensures { λ r. ⌜ r ≡ rules.power e ⌝ }
 {
     let marks = field::marks::table();
-    (place(&marks, e % ORDER) / POWERS_BEGIN % ELEMENTS) as u8
+    power_part(mark_at(&marks, e % ORDER)) as u8
 }
 
 #[no_mangle]

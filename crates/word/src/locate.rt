@@ -18,7 +18,7 @@ pub enum Answer {
 }
 
 // An odd number of places: one, or more than two.
-fn odd_places(n: usize, w: u32, marks: &[u32; 255], logs: &[u8; 256]) -> Answer
+fn odd_places(marks: &[u32; 255], logs: &[u8; 256], n: usize, w: u32) -> Answer
     requires { ⌜ (smallCode .shortest ≤ n) × (n ≤ smallCode .longest) ⌝ }
     requires { ⌜ (now marks ≡ smallMarking .marks) × (now logs ≡ smallMarking .logs) ⌝ }
     ensures { λ r. ⌜ Locates n 1 w r ⌝ }
@@ -32,7 +32,7 @@ fn odd_places(n: usize, w: u32, marks: &[u32; 255], logs: &[u8; 256]) -> Answer
 }
 
 // An even number of places: the parity bit and one other, two others, or more than two.
-fn even_places(n: usize, w: u32, marks: &[u32; 255], logs: &[u8; 256], halves: &[u8; 256]) -> Answer
+fn even_places(marks: &[u32; 255], logs: &[u8; 256], halves: &[u8; 256], n: usize, w: u32) -> Answer
     requires { ⌜ (smallCode .shortest ≤ n) × (n ≤ smallCode .longest) ⌝ }
     requires { ⌜ (now marks ≡ smallMarking .marks) × (now logs ≡ smallMarking .logs) × (now halves ≡ smallMarking .halves) ⌝ }
     ensures { λ r. ⌜ Locates n 0 w r ⌝ }
@@ -53,11 +53,11 @@ fn even_places(n: usize, w: u32, marks: &[u32; 255], logs: &[u8; 256], halves: &
 
 // What `locate` answers to checks that are not zero, by tables that a caller has taken.
 pub fn wrong_places(
-    n: usize,
-    checks: u32,
     marks: &[u32; 255],
     logs: &[u8; 256],
     halves: &[u8; 256],
+    n: usize,
+    checks: u32,
 ) -> Answer
     requires { ⌜ (smallCode .shortest ≤ n) × (n ≤ smallCode .longest) × (1 ≤ checks) × (checks < checksEnd smallCode) ⌝ }
     requires { ⌜ (now marks ≡ smallMarking .marks) × (now logs ≡ smallMarking .logs) × (now halves ≡ smallMarking .halves) ⌝ }
@@ -68,9 +68,9 @@ pub fn wrong_places(
     }
     let w = mark_of(marks, checks / 2);
     if checks % 2 == 1 {
-        odd_places(n, w, marks, logs)
+        odd_places(marks, logs, n, w)
     } else {
-        even_places(n, w, marks, logs, halves)
+        even_places(marks, logs, halves, n, w)
     }
 }
 
@@ -84,5 +84,5 @@ pub fn locate(n: usize, checks: u32) -> Answer
     let marks = field::marks::table();
     let logs = field::logs::table();
     let halves = field::halves::table();
-    wrong_places(n, checks, &marks, &logs, &halves)
+    wrong_places(&marks, &logs, &halves, n, checks)
 }

@@ -16,8 +16,10 @@ pub const ITEMS: [(usize, &str); 4] = [
 ];
 
 const N: usize = 195;
+/// So many wrong bits are mended.
+const MENDED: usize = 2;
 /// Timed together, since one is shorter than a clock's tick.
-const TOGETHER: usize = 1000;
+pub const TOGETHER: usize = 1000;
 
 /// Times both sides on the same checks, in microseconds for each. Nothing is given if an answer is wrong.
 pub fn time(code: &Code, wrong: usize, warm_up: usize, rounds: usize) -> Option<(Times, Times)> {
@@ -28,8 +30,15 @@ pub fn time(code: &Code, wrong: usize, warm_up: usize, rounds: usize) -> Option<
         if cases.iter().any(|case| case.proved() != case.second(code)) {
             return None;
         }
-        let (ours, said) = together(&cases, |case| case.call_proved(&[], &mut []));
-        let (theirs, also_said) = together(&cases, |case| case.call_second(code, &mut []));
+        let of_proved = || together(&cases, |case| case.call_proved(&[], &mut []));
+        let of_second = || together(&cases, |case| case.call_second(code, &mut []));
+        let ((ours, said), (theirs, also_said)) = if round % 2 == 0 {
+            let first = of_proved();
+            (first, of_second())
+        } else {
+            let first = of_second();
+            (of_proved(), first)
+        };
         // The calls that were timed did their work.
         if said != also_said {
             return None;
@@ -42,11 +51,12 @@ pub fn time(code: &Code, wrong: usize, warm_up: usize, rounds: usize) -> Option<
     Some((Times::of(proved), Times::of(second)))
 }
 
-/// The checks of a word with so many wrong bits: four of them are more than any codeword's two.
+/// The checks of a word with so many wrong bits. More than two are drawn until no codeword is within two of the word.
 fn case(random: &mut Random, places: &Places, wrong: usize) -> Case {
     loop {
         let checks = places.checks(&random.distinct(wrong, N));
-        if wrong < 3 || places.wrong(checks / 2, checks % 2 == 1).is_none() {
+        let beyond = places.wrong(checks / 2, checks % 2 == 1).is_none();
+        if beyond == (wrong > MENDED) {
             return Case::new(random, Entry::Locate, N, Vec::new(), 0).with(checks);
         }
     }

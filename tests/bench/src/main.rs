@@ -23,7 +23,8 @@ fn main() {
     for (wrong, name) in located::ITEMS {
         print(&mut score, name, located::time(&code, wrong, WARM_UP, FRAMES), 3);
     }
-    println!("{}, {}, {} frames for each line", processor(), env!("COMPILER"), FRAMES);
+    println!("{}, {}", processor(), env!("COMPILER"));
+    println!("{} frames for each line, for those of locate as many times {} checks", FRAMES, located::TOGETHER);
     score.end()
 }
 

@@ -56,7 +56,7 @@ fn words_and_data() -> Vec<Kind> {
         kind("words, none to five wrong bits", 2400, FOUR, words::up_to_five),
         whole("words of ones, and of ones but one", 3 * (rows + LENGTHS), FOUR, words::of_ones),
         kind("words, random bytes and ones", 1200, "TwoPlaces NoCodeword", words::random),
-        whole("words' checks, one in fifteen", 8738 * LENGTHS, FOUR, words::checks),
+        whole("words' checks, one in fifteen", words::CHECKS * LENGTHS, FOUR, words::checks),
         kind("words, spare bits set", 400, FOUR, words::spare_bits),
         kind("data encoded and read", 40, "Encoded Read", data::encode),
         kind("data with spare bits set", 20, "Encoded Number5", data::encode_spare_bits),

@@ -158,9 +158,15 @@ pub fn random(block: &mut Block) {
     }
 }
 
-/// One in fifteen of all checks, from a random one on; and what no checks are.
+/// One of so many checks is tried at each n: an odd number, so that both parities come.
+const ONE_IN: usize = 15;
+
+/// As many as are tried at least.
+pub const CHECKS: u64 = ((1 << CHECK_BITS) / ONE_IN) as u64;
+
+/// Checks from a random one on, at equal steps; and what no checks are.
 pub fn checks(block: &mut Block) {
-    let (n, every) = (block.n, if block.quick { 1025 } else { 15 });
+    let (n, every) = (block.n, if block.quick { 1025 } else { ONE_IN });
     let places = Places::new(n);
     for checks in (block.random.below(every)..1 << CHECK_BITS).step_by(every) {
         let number = match places.wrong(checks / 2, checks % 2 == 1).as_deref() {

@@ -26,23 +26,23 @@ returns-2 c =
     let a = d .before .args in
     lone-far smallMarking fit256 (a .bound) (a .w) (d .before .pre .2) _ _ (d .power-part .ensures .0) (c .before .exponent .ensures .0) (c .if2 .taken)
 
-place-requires : tie.Need-place-requires
-place-requires c κs = search needs
+mark-at-requires : tie.Need-mark-at-requires
+mark-at-requires c κs = search needs
 
 returns-3 : tie.Need-returns-3
 returns-3 c =
     let d = c .before .before .before .before .before in
     let a = d .before .args in
     lone-other smallMarking fit256 (a .bound) (a .w) (d .before .pre .2) _ _ (d .power-part .ensures .0) (c .before .before .before .exponent .ensures .0)
-    (λ q. c .if3 .taken (c .before .place .ensures ∙ q))
+    (λ q. c .if3 .taken (c .before .mark-at .ensures ∙ q))
 
 returns-4 : tie.Need-returns-4
 returns-4 c =
     let d = c .before .before .before .before .before .before in
     lone-found smallMarking fit256 (d .args .bound) (d .args .w) (d .pre .2) _ (omega (arith, c .before .before .if2 .left))
-    (sym (c .before .place .ensures) ∙ c .if3 .left)
+    (sym (c .before .mark-at .ensures) ∙ c .if3 .left)
 
 pub lone-spec : {M : Type 1} → statement M
 lone-spec =
     tie.close
-    (tie.spec power-part-requires returns exponent-requires returns-2 place-requires returns-3 returns-4)
+    (tie.spec power-part-requires returns exponent-requires returns-2 mark-at-requires returns-3 returns-4)

@@ -19,8 +19,8 @@ abbrev μ-loop : tie.MeasureT-loop
 loop-holds : tie.Need-loop-holds Inv-loop μ-loop
 loop-holds c = (search needs, marked-none smallMarking _)
 
-place-requires : tie.Need-place-requires Inv-loop μ-loop
-place-requires c κs = search needs
+mark-at-requires : tie.Need-mark-at-requires Inv-loop μ-loop
+mark-at-requires c κs = search needs
 
 mul-w : tie.Need-mul-w Inv-loop μ-loop
 mul-w c = record { fits = digit-lt (c .before .before .loop .left % 2) (omega arith) (search needs) }
@@ -33,7 +33,7 @@ loop-less c = search needs
 
 loop-again : tie.Need-loop-again Inv-loop μ-loop
 unfolding _⊕_
-loop-again c = (search needs, marked-one smallMarking _ _ _ _ _ (omega arith) (c .place .ensures) (c .before .before .loop .inv .1))
+loop-again c = (search needs, marked-one smallMarking _ _ _ _ _ (omega arith) (c .mark-at .ensures) (c .before .before .loop .inv .1))
 
 returns : tie.Need-returns Inv-loop μ-loop
 returns c = marked-all smallMarking _ _ _ _ (omega arith) (c .before .loop .inv .1)
@@ -41,4 +41,4 @@ returns c = marked-all smallMarking _ _ _ _ (omega arith) (c .before .loop .inv 
 pub mark-of-spec : {M : Type 1} → statement M
 mark-of-spec =
     tie.close
-    (tie.spec Inv-loop μ-loop loop-holds place-requires mul-w add-i loop-less loop-again returns)
+    (tie.spec Inv-loop μ-loop loop-holds mark-at-requires mul-w add-i loop-less loop-again returns)

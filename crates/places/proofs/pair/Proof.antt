@@ -17,8 +17,8 @@ returns c =
     let d = c .before .before in
     pair-far smallMarking fit256 (d .args .bound) (d .args .w) _ (d .pre .3) (c .before .one-of .ensures) (d .args .bound) (c .if1 .taken)
 
-place-requires : tie.Need-place-requires
-place-requires c κs = search needs
+mark-at-requires : tie.Need-mark-at-requires
+mark-at-requires c κs = search needs
 
 lone-requires : tie.Need-lone-requires
 lone-requires c κs = search needs
@@ -28,7 +28,7 @@ unfolding _⊕_
 returns-2 c =
     let b = c .before .before .before in
     let d = b .before .before in
-    pair-above smallMarking fit256 (d .args .bound) (d .args .w) _ (d .pre .3) (b .before .one-of .ensures) _ _ (c .before .before .place .ensures)
+    pair-above smallMarking fit256 (d .args .bound) (d .args .w) _ (d .pre .3) (b .before .one-of .ensures) _ _ (c .before .before .mark-at .ensures)
     (omega (arith, b .if1 .left)) (c .before .lone .ensures) (c .if2 .taken)
 
 returns-3 : tie.Need-returns-3
@@ -36,9 +36,9 @@ unfolding _⊕_
 returns-3 c =
     let b = c .before .before .before in
     let d = b .before .before in
-    pair-below smallMarking fit256 (d .args .bound) (d .args .w) _ (d .pre .3) (b .before .one-of .ensures) _ _ (c .before .before .place .ensures)
+    pair-below smallMarking fit256 (d .args .bound) (d .args .w) _ (d .pre .3) (b .before .one-of .ensures) _ _ (c .before .before .mark-at .ensures)
     (omega (arith, b .if1 .left)) (c .before .lone .ensures) (omega (arith, c .if2 .left))
 
 pub pair-spec : {M : Type 1} → statement M
 pair-spec =
-    tie.close (tie.spec one-of-requires returns place-requires lone-requires returns-2 returns-3)
+    tie.close (tie.spec one-of-requires returns mark-at-requires lone-requires returns-2 returns-3)

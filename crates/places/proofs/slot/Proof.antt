@@ -12,8 +12,8 @@ use Rattle.places.proofs.slot.Tie as tie
 returns : tie.Need-returns
 returns c = (search needs, rw (c .if1 .taken) (slot-zero smallMarking fit256 (c .before .args .l)))
 
-place-requires : tie.Need-place-requires
-place-requires c κs = search needs
+mark-at-requires : tie.Need-mark-at-requires
+mark-at-requires c κs = search needs
 
 cube-part-requires : tie.Need-cube-part-requires
 cube-part-requires c κs = search needs
@@ -40,7 +40,7 @@ returns-2 c =
     let a = d .args in
     let q =
     b .before .exponent .ensures .0
-    ∙ ap (logAt smallMarking) (b .before .before .cube-part .ensures .0 ∙ ap (cubePart smallMarking) (b .before .before .before .place .ensures)) in (
+    ∙ ap (logAt smallMarking) (b .before .before .cube-part .ensures .0 ∙ ap (cubePart smallMarking) (b .before .before .before .mark-at .ensures)) in (
       search needs,
       slot-some smallMarking fit256 (a .l) (a .cubes) _ _ (d .pre .2) (b .before .before .before .before .if1 .left) (d .pre .3) q
           (c .reduced .ensures .0) (rw (b .exponent2 .ensures .0) at (c .reduced .ensures .1)),
@@ -51,7 +51,7 @@ slot-spec =
     tie.close
     (tie.spec
     returns
-    place-requires
+    mark-at-requires
     cube-part-requires
     exponent-requires
     exponent-requires-2

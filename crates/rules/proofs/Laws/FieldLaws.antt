@@ -11,7 +11,7 @@ use lib.ListN.{getD}
 use Rattle.algebra.specs.Register.{iter, turn}
 use Rattle.algebra.specs.Marking.{powerPart, markAt}
 use Rattle.algebra.specs.Field256.{logs, smallMarking}
-use Rattle.algebra.proofs.RegisterLaws.{iter-add, iter-mul, iter-keeps, iter-lt, iter-nonzero}
+use Rattle.algebra.proofs.RegisterLaws.{iter-add, iter-mul, iter-keeps, iter-nonzero}
 use Rattle.algebra.proofs.RegisterProduct.{multiply, multiply-powers, zero-multiply, multiply-zero}
 use Rattle.algebra.proofs.MarkLaws.{power-at}
 use Rattle.algebra.proofs.Field256Laws.{fit256, powers256-at, round256, powers256-logs, logs256-lt, power256-injective}

@@ -71,7 +71,7 @@ pub record FieldPromise : Type 0 where
   pub least : (x : ℕ) → 1 ≤ x → x < 256 → lowValue 3 x ≢ 0
   -- the rule of the two tables, shown of each table as a whole
   pub tables : Tables 7 29 powers logs
-  -- z^16 leaves the number by which the marks go
+  -- the marks are of this g: z^16, and their `low`
   pub lower : g ≡ 2 ^ 16 + smallMarking .low
   -- the mark of an exponent is made of z^e mod g, a^e and a^3e
   pub marks :

@@ -11,14 +11,17 @@ use Rattle.probe.proofs.exports.probe_power.Tie as tie
 table-requires : tie.Need-table-requires
 table-requires c κs = search needs
 
-place-requires : tie.Need-place-requires
-place-requires c κs = search needs
+mark-at-requires : tie.Need-mark-at-requires
+mark-at-requires c κs = search needs
+
+power-part-requires : tie.Need-power-part-requires
+power-part-requires c κs = search needs
 
 cast-result : tie.Need-cast-result
 cast-result c = search needs
 
 returns : tie.Need-returns
-returns c = ap (powerPart smallMarking) (c .place .ensures) ∙ marks-power (c .before .before .before .args .e)
+returns c = c .power-part .ensures .0 ∙ ap (powerPart smallMarking) (c .before .mark-at .ensures) ∙ marks-power (c .before .before .before .before .args .e)
 
 pub probe-power-spec : {M : Type 1} → statement M
-probe-power-spec = tie.close (tie.spec table-requires place-requires cast-result returns)
+probe-power-spec = tie.close (tie.spec table-requires mark-at-requires power-part-requires cast-result returns)
