@@ -2,4 +2,5 @@
 pub mod Records
 pub mod LongestLine
 pub mod Lines
+pub mod Outputs
 pub mod Reports

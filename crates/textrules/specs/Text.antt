@@ -70,6 +70,10 @@ unfoldable pub fields : Text → List Text
 fields [] = [] ∷ []
 fields (x ∷ s) = parted (eqb x tabulator) x (fields s)
 
+-- field i, counted from 0
+abbrev pub fieldAt : Text → ℕ → Text
+fieldAt s i = getD (fields s) i []
+
 -- ---- Digits
 
 -- p holds of each character
@@ -135,3 +139,12 @@ isHex s = eqb (length s % 2) 0 && every isHexDigit s
 -- two digits a byte, the higher first
 unfoldable pub hexBytes : Text → List ℕ
 hexBytes s = tab (length s / 2) (λ i. hexValue (getD s (2 * i) 0) * 16 + hexValue (getD s (2 * i + 1) 0))
+
+-- the digit of a number below 16
+abbrev pub hexDigit : ℕ → ℕ
+hexDigit h = getD (ascii "0123456789ABCDEF") h 0
+
+-- bytes in hex, as they are written: two digits a byte, the higher first
+unfoldable pub hexText : List ℕ → Text
+hexText [] = []
+hexText (x ∷ bytes) = hexDigit (x / 16) ∷ hexDigit (x % 16) ∷ hexText bytes

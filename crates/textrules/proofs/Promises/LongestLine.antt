@@ -7,10 +7,10 @@ use native.Mathlib.Omega.{arith}
 use lib.Dec.{leb→le}
 use lib.ListN.{length, length-append}
 use Rattle.rules.specs.Numbers.{frameBytes}
-use Rattle.textrules.specs.Text.{Text, ascii, decimal}
+use Rattle.textrules.specs.Text.{Text, ascii, decimal, hexText}
 use Rattle.textrules.specs.Dump.{longestLine, Line, badLine, aRecord, lineOf}
 use Rattle.textrules.proofs.Laws.TextLaws.{decimal-short, decimal-long}
-use Rattle.textrules.proofs.Promises.Records.{hexText, recordLine, WrittenAs, records}
+use Rattle.textrules.proofs.Promises.Records.{recordLine, WrittenAs, records}
 
 -- ---- The statement
 

@@ -15,22 +15,13 @@ use Rattle.algebra.specs.Sums.{AllN}
 use Rattle.algebra.specs.Tables.{tab, tabFrom, ones}
 use Rattle.algebra.proofs.TableLaws.{count-zero}
 use Rattle.rules.specs.Numbers.{pick}
-use Rattle.textrules.specs.Text.{Text, ascii, tabulator, fields, every, isDigit, isDecimal, decimalValue, valueFrom, decimal, isHexDigit, hexValue, isHex, hexBytes}
-use Rattle.textrules.specs.Dump.{longestLine, Line, badLine, aRecord, fieldAt, isRecord, lineOf}
+use Rattle.textrules.specs.Text.{Text, ascii, tabulator, fields, fieldAt, every, isDigit, isDecimal, decimalValue, valueFrom, decimal, isHexDigit, hexValue, isHex, hexBytes, hexDigit, hexText}
+use Rattle.textrules.specs.Dump.{longestLine, Line, badLine, aRecord, isRecord, lineOf}
 use Rattle.rules.proofs.Laws.OneOfLaws.{and-both}
 use Rattle.textrules.proofs.Laws.Computing.{computing}
 use Rattle.textrules.proofs.Laws.TextLaws.{all-so, every-all, all-every, Digit, decimal-small, decimal-digits, decimal-first, decimal-some, decimal-short, decimal-long, decimal-value, value-decimal, fields-cut, fields-one, tabbed, fields-tabbed, hexBytes-none, hexBytes-two}
 
 -- ---- The statement
-
--- the hex digit of a number below 16
-abbrev pub hexDigit : ℕ → ℕ
-hexDigit h = getD (ascii "0123456789ABCDEF") h 0
-
--- a frame in hex: two digits a byte, the higher first
-unfoldable pub hexText : List ℕ → Text
-hexText [] = []
-hexText (x ∷ frame) = hexDigit (x / 16) ∷ hexDigit (x % 16) ∷ hexText frame
 
 -- how a record is written: its number, n and allowance in decimal, the frame in hex, a tab between two of them
 abbrev pub recordLine : ℕ → ℕ → ℕ → List ℕ → Text

@@ -1,29 +1,24 @@
 -- RULES 9: the report, with an example, and what each line of a dump gives.
 -- Assumes nothing.
-use mathlib.Core.Path.{_≡_, refl, sym, ap, ap₂, _∙_}
+use mathlib.Core.Path.{_≡_, refl}
 use mathlib.Core.Logic.{_≢_, _⊎_, inl, inr}
-use mathlib.Core.Bool.{Bool, true, false, not, _&&_, false≢true}
+use mathlib.Core.Bool.{Bool, true, false}
 use mathlib.Core.List.{List, [], _∷_, _++_, map, append-assoc}
-use Prim.Native.Nat.{ℕ, suc, _+_}
-use native.Mathlib.Nat.{zero-add}
-use native.Mathlib.Omega.{arith}
+use Prim.Native.Nat.{ℕ, _+_}
 use lib.Dec.{eqb}
 use lib.ListN.{length, getD}
-use borrow.Author.Tests.{eqb-true, eqb-false, eq-eqb, not-true}
 use Rattle.algebra.specs.Sums.{All}
 use Rattle.algebra.specs.Tables.{tab}
-use Rattle.algebra.proofs.TableLaws.{tab-zero, tab-suc, tab-ext}
 use Rattle.rules.specs.Codes.{smallCode}
 use Rattle.rules.specs.Frames.{isErased}
 use Rattle.rules.specs.Bits.{frameOf}
 use Rattle.rules.specs.Passes.{clean, repaired, stuck, spent, decoded}
 use Rattle.rules.specs.Numbers.{pick, outside, notLong, notAllowed, frameBytes, Decoded, refused, erased, undecoded, ended, told, decodeRefusal, decodeSaid}
-use Rattle.textrules.specs.Text.{Text, ascii, same, lines, every, digits, decimal}
-use Rattle.textrules.specs.Dump.{header, Line, badLine, aRecord, lineOf, afterTabs, reportLine, goodHeader, badHeader, endingText, reportedCounts, recordText, lineText, reportFrom, underHeader, report, reportSome, reportCut}
-use Rattle.rules.proofs.Laws.OneOfLaws.{and-both}
-use Rattle.textrules.proofs.Laws.TextLaws.{all-append, all-so, every-all, Digit, decimal-digits, tabbed}
+use Rattle.textrules.specs.Text.{Text, ascii, lines, every, digits, decimal}
+use Rattle.textrules.specs.Dump.{Line, badLine, aRecord, lineOf, endingText, reportedCounts, recordText, lineText, repair, report, reportCut}
 use Rattle.textrules.proofs.Laws.Computing.{computing}
-use Rattle.textrules.proofs.Promises.Lines.{NoLF, joinedLines, lines-promise}
+use Rattle.textrules.proofs.Promises.Lines.{NoLF, joinedLines}
+use Rattle.textrules.proofs.Promises.Outputs.{joinedTexts, outputs, one-lf, decimal-no-lf, decimals-no-lf, quoted-no-lf}
 
 -- ---- The statement
 
@@ -68,11 +63,6 @@ ErasedExample =
 -- a record that breaks off, after an empty line
 abbrev pub CutExample : Type 0
 CutExample = reportCut (ascii "frames\t1\n" ++ ascii "\n" ++ ascii "0\t18\t2\t00") ≡ ascii "repair\t1\n" ++ ascii "?\t2\n"
-
--- the texts, one after the other
-abbrev pub joinedTexts : List Text → Text
-joinedTexts [] = []
-joinedTexts (t ∷ ts) = t ++ joinedTexts ts
 
 -- a record's line, from what decoding said
 abbrev pub recordSays : ℕ → Decoded → Text
@@ -135,65 +125,6 @@ erased-shown : ErasedExample
 unfolding computing
 erased-shown = refl
 
--- ---- the header
-
-pub same-self : (s : Text) → same s s ≡ true
-unfolding same
-same-self [] = refl
-same-self (x ∷ s) = ap₂ _&&_ (eq-eqb x x refl) (same-self s)
-
-pub same-is : (s t : Text) → same s t ≡ true → s ≡ t
-unfolding same
-same-is [] [] h = refl
-same-is [] (y ∷ t) h = absurd (false≢true h)
-same-is (x ∷ s) [] h = absurd (false≢true h)
-same-is (x ∷ s) (y ∷ t) h = let k = and-both (eqb x y) (same s t) h in ap₂ _∷_ (eqb-true x y (k .0)) (same-is s t (k .1))
-
-header-bad : (input first : Text) (later : List Text) → lines input ≡ first ∷ later → first ≢ header → report input ≡ badHeader
-unfolding report
-header-bad input first later e h = ap underHeader e ∙ go (same first header) _ refl
-  where
-    go : (b : Bool) (t : Text) → same first header ≡ b → pick b t badHeader ≡ badHeader
-    go true t k = absurd (h (same-is first header k))
-    go false t k = refl
-
-header-none : (input : Text) → lines input ≡ [] → report input ≡ badHeader
-unfolding report
-header-none input e = ap underHeader e
-
--- ---- the lines under it
-
--- what line k and those after it give
-given : ℕ → List Text → ℕ → Text
-given k later i = lineText (i + k) (lineOf (getD later i []))
-
-given-first : (k : ℕ) (s : Text) (later : List Text) → given k (s ∷ later) 0 ≡ lineText k (lineOf s)
-unfolding given
-given-first k s later = ap (λ m. lineText m (lineOf s)) (zero-add k)
-
-given-next : (k : ℕ) (s : Text) (later : List Text) (i : ℕ) → given k (s ∷ later) (suc i) ≡ given (suc k) later i
-unfolding given
-given-next k s later i =
-    let e : suc i + k ≡ i + suc k = omega arith in ap (λ m. lineText m (lineOf (getD later i []))) e
-
-from-line : (k : ℕ) (later : List Text) → reportFrom k later ≡ joinedTexts (tab (length later) (given k later))
-unfolding reportFrom
-from-line k [] = sym (ap joinedTexts (tab-zero (given k [])))
-from-line k (s ∷ later) =
-    sym (ap joinedTexts (tab-suc (length later) (given k (s ∷ later)))
-    ∙ ap₂ _++_ (given-first k s later)
-    (ap joinedTexts (tab-ext (length later) (λ i. given k (s ∷ later) (suc i)) (given (suc k) later) (λ i h. given-next k s later i))
-    ∙ sym (from-line (suc k) later)))
-
-lines-numbered :
-    (input : Text) (later : List Text) → lines input ≡ header ∷ later
-    → report input ≡ goodHeader ++ joinedTexts (tab (length later) (given 2 later))
-unfolding report
-lines-numbered input later e =
-    ap underHeader e
-    ∙ ap (λ b. pick b (goodHeader ++ reportFrom 2 later) badHeader) (same-self header)
-    ∙ ap (λ t. goodHeader ++ t) (from-line 2 later)
-
 -- ---- one line
 
 says : (number : ℕ) (d : Decoded) → recordText number d ≡ recordSays number d
@@ -221,36 +152,6 @@ refused-by n allowance frame = go (outside smallCode n) (notLong frame (frameByt
 
 -- ---- one LF, at the end
 
-after-tabs : (fs : List Text) → afterTabs fs ≡ tabbed fs ++ ascii "\n"
-after-tabs [] = refl
-after-tabs (f ∷ fs) =
-    ap (λ t. 9 ∷ t) (ap (λ t. f ++ t) (after-tabs fs) ∙ sym (append-assoc f (tabbed fs) (ascii "\n")))
-
-tabbed-no-lf : (fs : List Text) → All NoLF fs → NoLF (tabbed fs)
-tabbed-no-lf [] h = tt
-tabbed-no-lf (f ∷ fs) h = (λ e. omega (arith, e), all-append (λ x. x ≢ 10) f (tabbed fs) (h .0) (tabbed-no-lf fs (h .1)))
-
-one-lf :
-    (f : Text) (fs : List Text) → NoLF f → All NoLF fs → (t : Text) × NoLF t × (reportLine f fs ≡ t ++ ascii "\n")
-one-lf f fs h k = (
-  f ++ tabbed fs,
-  all-append (λ x. x ≢ 10) f (tabbed fs) h (tabbed-no-lf fs k),
-  ap (λ t. f ++ t) (after-tabs fs) ∙ sym (append-assoc f (tabbed fs) (ascii "\n")),
-)
-
-decimal-no-lf : (x : ℕ) → NoLF (decimal x)
-decimal-no-lf x = all-so Digit (λ c. c ≢ 10) (λ c h e. omega (arith, h .0, e)) (decimal x) (decimal-digits x)
-
-decimals-no-lf : (xs : List ℕ) → All NoLF (map decimal xs)
-decimals-no-lf [] = tt
-decimals-no-lf (x ∷ xs) = (decimal-no-lf x, decimals-no-lf xs)
-
--- a quoted text: to be computed
-quoted-no-lf : (t : Text) → every (λ x. not (eqb x 10)) t ≡ true → NoLF t
-quoted-no-lf t h =
-    all-so (λ x. not (eqb x 10) ≡ true) (λ x. x ≢ 10) (λ x k. eqb-false x 10 (not-true (eqb x 10) k)) t
-    (every-all (λ x. not (eqb x 10)) t h)
-
 ending-no-lf : (d : Decoded) → NoLF (endingText d)
 unfolding every
 ending-no-lf (refused r) = quoted-no-lf (ascii "refused") refl
@@ -268,40 +169,23 @@ line-one-lf k (aRecord number n allowance frame) =
     one-lf (decimal number) (endingText d ∷ map decimal (reportedCounts d)) (decimal-no-lf number)
     (ending-no-lf d, decimals-no-lf (reportedCounts d))
 
--- ---- an input that broke off
-
 cut-shown : CutExample
 unfolding computing
 cut-shown = refl
 
-cut-lines :
-    (l : Text) (ls : List Text) (rest : Text) → All NoLF (l ∷ ls) → NoLF rest
-    → reportCut (joinedLines (l ∷ ls) ++ rest) ≡ report (joinedLines (l ∷ ls))
-unfolding reportCut
-cut-lines l ls rest h k = ap reportSome (lines-promise .whole-lines (l ∷ ls) rest h k) ∙ go l
-  where
-    go : (l : Text) → reportSome (joinedLines (l ∷ ls)) ≡ report (joinedLines (l ∷ ls))
-    go [] = refl
-    go (x ∷ l) = refl
-
-cut-none : (rest : Text) → NoLF rest → reportCut rest ≡ []
-unfolding reportCut
-cut-none rest k = ap reportSome (lines-promise .whole-lines [] rest tt k)
-
 pub reports : Reports
-unfolding given
 reports = record {
   example = shown;
   spent-example = spent-shown;
   erased-example = erased-shown;
-  numbered = lines-numbered;
-  bad-header = header-bad;
-  no-header = header-none;
+  numbered = outputs repair .numbered;
+  bad-header = outputs repair .bad-header;
+  no-header = outputs repair .no-header;
   bad-line = λ k. refl;
   good-line = λ k number n allowance frame. says number (decodeSaid smallCode n allowance frame frame);
   refusals = refused-by;
   cut-example = cut-shown;
-  cut = cut-lines;
-  cut-first = cut-none;
+  cut = outputs repair .cut;
+  cut-first = outputs repair .cut-first;
   one-line = line-one-lf;
 }
