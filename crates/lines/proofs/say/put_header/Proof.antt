@@ -1,0 +1,44 @@
+use Rattle.lines.proofs.StateLaws.{lays-as, picked}
+use Rattle.textrules.specs.Programs.{badHeader}
+use mathlib.Core.Path.{_≡_, refl, sym, ap, _∙_}
+use mathlib.Core.Logic.{⊎-elim}
+use Prim.Native.Nat.{ℕ, zero, suc, _+_, _*_, _-_, _/_, _%_, _^_, _≤_, _<_}
+use native.Mathlib.Omega.{arith}
+use native.Mathlib.Numerals.{add-one}
+use lib.ListN.{length, getD}
+use borrow.Author.Needs.{needs}
+use Rattle.lines.proofs.say.put_header.Statement.{statement}
+use Rattle.lines.proofs.say.put_header.Tie as tie
+
+put-requires : tie.Need-put-requires
+put-requires c κs = search needs
+
+same-length : tie.Need-same-length
+same-length c = search needs
+
+returns : tie.Need-returns
+returns c = lays-as _ _ _ _ _ _ (picked (c .before .before .before .before .before .before .before .args .opening .now) badHeader (c .before .before .before .before .if1 .taken)) (c .before .before .put .ensures)
+
+slice-aggregate-put : tie.Need-slice-aggregate-put
+slice-aggregate-put c = search needs
+
+put-requires-2 : tie.Need-put-requires-2
+put-requires-2 c κs = search needs
+
+same-length-2 : tie.Need-same-length-2
+same-length-2 c = search needs
+
+returns-2 : tie.Need-returns-2
+returns-2 c = lays-as _ _ _ _ _ _ (picked (c .before .before .before .before .before .before .before .before .args .opening .now) badHeader (c .before .before .before .before .before .if1 .left)) (c .before .before .put2 .ensures)
+
+pub put-header-spec : {M : Type 1} → statement M
+put-header-spec =
+    tie.close
+    (tie.spec
+    put-requires
+    same-length
+    returns
+    slice-aggregate-put
+    put-requires-2
+    same-length-2
+    returns-2)

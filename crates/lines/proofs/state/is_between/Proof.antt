@@ -1,0 +1,19 @@
+use Rattle.lines.proofs.StateLaws.{between-not, between-so}
+use mathlib.Core.Path.{_≡_, refl, sym, ap, _∙_}
+use mathlib.Core.Logic.{⊎-elim}
+use Prim.Native.Nat.{ℕ, zero, suc, _+_, _*_, _-_, _/_, _%_, _^_, _≤_, _<_}
+use native.Mathlib.Omega.{arith}
+use native.Mathlib.Numerals.{add-one}
+use lib.ListN.{length, getD}
+use borrow.Author.Needs.{needs}
+use Rattle.lines.proofs.state.is_between.Statement.{statement}
+use Rattle.lines.proofs.state.is_between.Tie as tie
+
+returns : tie.Need-returns
+returns c = between-not (c .before .before .args .state) (c .if1 .taken)
+
+returns-2 : tie.Need-returns-2
+returns-2 c = between-so (c .before .before .before .args .state) (c .before .if1 .left)
+
+pub is-between-spec : {M : Type 1} → statement M
+is-between-spec = tie.close (tie.spec returns returns-2)

@@ -1,0 +1,25 @@
+use Rattle.lines.proofs.StateLaws.{keep-out}
+use mathlib.Core.Path.{_≡_, refl, sym, ap, _∙_}
+use mathlib.Core.Logic.{⊎-elim}
+use Prim.Native.Nat.{ℕ, zero, suc, _+_, _*_, _-_, _/_, _%_, _^_, _≤_, _<_}
+use native.Mathlib.Omega.{arith}
+use native.Mathlib.Numerals.{add-one}
+use lib.ListN.{length, getD}
+use borrow.Author.Needs.{needs}
+use Rattle.lines.proofs.state.keep.Statement.{statement}
+use Rattle.lines.proofs.state.keep.Tie as tie
+
+slice-write-line : tie.Need-slice-write-line
+slice-write-line c = search needs
+
+same-length : tie.Need-same-length
+same-length c = search needs
+
+returns : tie.Need-returns
+returns c = search needs
+
+returns-2 : tie.Need-returns-2
+returns-2 c = keep-out (c .before .args .line .now) (c .before .args .place) (c .before .args .byte) (c .if1 .left)
+
+pub keep-spec : {M : Type 1} → statement M
+keep-spec = tie.close (tie.spec slice-write-line same-length returns returns-2)
