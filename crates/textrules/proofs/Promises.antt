@@ -4,3 +4,5 @@ pub mod LongestLine
 pub mod Lines
 pub mod Outputs
 pub mod Reports
+-- The factory's data, the dump written of them, and that dump's report
+pub mod Written

@@ -31,7 +31,7 @@ pub record LongestLine : Type 0 where
 
 -- ---- The proof
 
-hex-length : (frame : List ℕ) → length (hexText frame) ≡ 2 * length frame
+pub hex-length : (frame : List ℕ) → length (hexText frame) ≡ 2 * length frame
 unfolding hexText
 hex-length [] = refl
 hex-length (x ∷ frame) = omega (arith, hex-length frame)

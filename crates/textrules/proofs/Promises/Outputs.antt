@@ -143,13 +143,16 @@ tabbed-no-lf : (fs : List Text) → All NoLF fs → NoLF (tabbed fs)
 tabbed-no-lf [] h = tt
 tabbed-no-lf (f ∷ fs) h = (λ e. omega (arith, e), all-append (λ x. x ≢ 10) f (tabbed fs) (h .0) (tabbed-no-lf fs (h .1)))
 
+-- a line of the output, and its LF
+pub out-line : (f : Text) (fs : List Text) → outLine f fs ≡ (f ++ tabbed fs) ++ ascii "\n"
+out-line f fs = ap (λ t. f ++ t) (after-tabs fs) ∙ sym (append-assoc f (tabbed fs) (ascii "\n"))
+
+pub line-no-lf : (f : Text) (fs : List Text) → NoLF f → All NoLF fs → NoLF (f ++ tabbed fs)
+line-no-lf f fs h k = all-append (λ x. x ≢ 10) f (tabbed fs) h (tabbed-no-lf fs k)
+
 pub one-lf :
     (f : Text) (fs : List Text) → NoLF f → All NoLF fs → (t : Text) × NoLF t × (outLine f fs ≡ t ++ ascii "\n")
-one-lf f fs h k = (
-  f ++ tabbed fs,
-  all-append (λ x. x ≢ 10) f (tabbed fs) h (tabbed-no-lf fs k),
-  ap (λ t. f ++ t) (after-tabs fs) ∙ sym (append-assoc f (tabbed fs) (ascii "\n")),
-)
+one-lf f fs h k = (f ++ tabbed fs, line-no-lf f fs h k, out-line f fs)
 
 pub decimal-no-lf : (x : ℕ) → NoLF (decimal x)
 decimal-no-lf x = all-so Digit (λ c. c ≢ 10) (λ c h e. omega (arith, h .0, e)) (decimal x) (decimal-digits x)

@@ -186,7 +186,7 @@ first-digit c (x ∷ t) h k e =
     other true f e = absurd (true≢false f)
     other false f e = eqb-false (c - 48) 0 (not-true (eqb (c - 48) 0) e)
 
-good-decimal : (s : Text) → isDecimal s ≡ true → (s ≡ decimal (decimalValue s)) × (decimalValue s < 10 ^ 9)
+pub good-decimal : (s : Text) → isDecimal s ≡ true → (s ≡ decimal (decimalValue s)) × (decimalValue s < 10 ^ 9)
 unfolding isDecimal
 good-decimal s h =
     let k = and-both (leb 1 (length s) && leb (length s) 9 && every isDigit s) _ h in
