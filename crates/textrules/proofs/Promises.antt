@@ -6,3 +6,4 @@ pub mod Outputs
 pub mod Reports
 -- The factory's data, the dump written of them, and that dump's report
 pub mod Written
+pub mod Meet

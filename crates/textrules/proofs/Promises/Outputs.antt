@@ -58,6 +58,9 @@ same-is [] (y ∷ t) h = absurd (false≢true h)
 same-is (x ∷ s) [] h = absurd (false≢true h)
 same-is (x ∷ s) (y ∷ t) h = let k = and-both (eqb x y) (same s t) h in ap₂ _∷_ (eqb-true x y (k .0)) (same-is s t (k .1))
 
+pub same-not : (s t : Text) → same s t ≡ false → s ≢ t
+same-not s t h e = false≢true (sym h ∙ ap (same s) (sym e) ∙ same-self s)
+
 module _ (p : Program) where
   header-bad : (input first : Text) (later : List Text) → lines input ≡ first ∷ later → first ≢ p .header → output p input ≡ badHeader
   unfolding output

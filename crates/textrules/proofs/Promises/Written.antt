@@ -179,14 +179,14 @@ refused-says :
     (number r : ℕ) → refusedLine number r ≡ ascii "!\t" ++ decimal number ++ ascii "\t" ++ decimal r ++ ascii "\n"
 refused-says number r = simp append-assoc
 
-line-accepted :
+pub line-accepted :
     (k number n : ℕ) (message : List ℕ) → encodeNumber smallCode n message (blankFrame n) ≡ 0
     → dataText k (someData number n message) ≡ frameLine number n (encodeOutput smallCode n message (blankFrame n))
 line-accepted k number n message z =
     let r : ℕ = encodeNumber smallCode n message (blankFrame n) in
     at-zero r (frameLine number n (encodeOutput smallCode n message (blankFrame n))) (refusedLine number r) z
 
-line-refused :
+pub line-refused :
     (k number n r : ℕ) (message : List ℕ) → r ≢ 0 → encodeNumber smallCode n message (blankFrame n) ≡ r
     → dataText k (someData number n message) ≡ refusedLine number r
 line-refused k number n r message some e =
@@ -214,7 +214,7 @@ hex-no-lf (x ∷ frame) = (hex-digit-no-lf (x / 16), (hex-digit-no-lf (x % 16), 
 pub frame-fields-no-lf : (n : ℕ) (frame : List ℕ) → All NoLF (decimal n ∷ decimal givenAllowance ∷ hexText frame ∷ [])
 frame-fields-no-lf n frame = (decimal-no-lf n, (decimal-no-lf givenAllowance, (hex-no-lf frame, tt)))
 
-mark-no-lf : NoLF (ascii "!") × NoLF (ascii "?")
+pub mark-no-lf : NoLF (ascii "!") × NoLF (ascii "?")
 unfolding every
 mark-no-lf = (quoted-no-lf (ascii "!") refl, quoted-no-lf (ascii "?") refl)
 
@@ -224,7 +224,8 @@ line-one-lf k (someData number n message) =
     let r : ℕ = encodeNumber smallCode n message (blankFrame n) in
     let frame : List ℕ = encodeOutput smallCode n message (blankFrame n) in
     at-either (λ u. (t : Text) × NoLF t × (u ≡ t ++ ascii "\n")) r (frameLine number n frame) (refusedLine number r)
-    (λ z. one-lf (decimal number) (decimal n ∷ decimal givenAllowance ∷ hexText frame ∷ []) (decimal-no-lf number) (frame-fields-no-lf n frame))
+    (λ z. one-lf (decimal number) (decimal n ∷ decimal givenAllowance ∷ hexText frame ∷ []) (decimal-no-lf number)
+    (frame-fields-no-lf n frame))
     (λ z. one-lf (ascii "!") (decimal number ∷ decimal r ∷ []) (mark-no-lf .0) (decimal-no-lf number, (decimal-no-lf r, tt)))
 
 -- ---- the length
@@ -252,7 +253,8 @@ frame-line-most number n frame h k =
     omega (arith, frame-line-length number n frame, decimal-short number 9 h (omega arith), decimal-short n 3 (omega arith) (omega arith))
 
 pub frame-line-short :
-    (number n : ℕ) (frame : List ℕ) → number < 10 ^ 9 → n ≤ 256 → length frame ≡ frameBytes n → length (frameLine number n frame) ≤ 16401
+    (number n : ℕ) (frame : List ℕ) → number < 10 ^ 9 → n ≤ 256 → length frame ≡ frameBytes n
+    → length (frameLine number n frame) ≤ 16401
 frame-line-short number n frame h k e = omega (arith, frame-line-most number n frame h k, frame-bytes-most n k, e)
 
 pub refused-line-short : (number r : ℕ) → number < 10 ^ 9 → r ≤ 10 → length (refusedLine number r) ≤ 15
