@@ -11,7 +11,8 @@ use borrow.Author.Tests.{not-true, not-false}
 use Rattle.rules.specs.Codes.{smallCode}
 use Rattle.rules.specs.Numbers.{decodeSaid}
 use Rattle.textrules.specs.Text.{Text, isHex, hexBytes}
-use Rattle.textrules.specs.Dump.{Line, badLine, aRecord, longestLine, questioned, recordText, lineText, lineOf}
+use Rattle.textrules.specs.Programs.{questioned}
+use Rattle.textrules.specs.Dump.{Line, badLine, aRecord, longestLine, recordText, lineText, lineOf}
 use Rattle.frame.specs.declared.decode.Decoded.{Decoded}
 use Rattle.frame.specs.Said.{decodedOf}
 use Rattle.text.specs.declared.record.Head.{Head}

@@ -2,17 +2,14 @@
 use mathlib.Core.List.{_∷_, []}
 use Prim.Native.Nat.{ℕ, _+_, _*_}
 use Rattle.textrules.specs.Text.{Text, ascii, decimal}
-use Rattle.textrules.specs.Dump.{reportLine}
+use Rattle.textrules.specs.Programs.{outLine}
+use Rattle.lines.specs.Say.{wordDigits}
 use Rattle.frame.specs.declared.decode.Ending.{Ending}
 use Rattle.frame.specs.declared.decode.Ending.the-variants.{Clean, Repaired, Stuck, Spent, Erased}
 use Rattle.frame.specs.declared.decode.Report.{Report}
 use Rattle.frame.specs.declared.decode.Decoded.{Decoded}
 use Rattle.frame.specs.declared.decode.Decoded.the-variants.{Refused, Ended}
 use Rattle.dump.specs.declared.report.Counts.{Counts}
-
--- the digits of the greatest number of a machine word
-abbrev pub wordDigits : ℕ
-wordDigits = 20
 
 -- the letters of `repaired`, the longest word
 abbrev pub mostLetters : ℕ
@@ -28,12 +25,12 @@ lineRoom = 128
 
 -- the numbers that close a record's line
 abbrev pub countsText : Counts → Text
-countsText c = reportLine (decimal (c .passes)) (decimal (c .bits) ∷ decimal (c .rows) ∷ decimal (c .columns) ∷ [])
+countsText c = outLine (decimal (c .passes)) (decimal (c .bits) ∷ decimal (c .rows) ∷ decimal (c .columns) ∷ [])
 
 -- a record's line, from its word and its counts
 abbrev pub wordAndCounts : ℕ → Text → Counts → Text
 wordAndCounts number word c =
-    reportLine (decimal number) (word ∷ decimal (c .passes) ∷ decimal (c .bits) ∷ decimal (c .rows) ∷ decimal (c .columns) ∷ [])
+    outLine (decimal number) (word ∷ decimal (c .passes) ∷ decimal (c .bits) ∷ decimal (c .rows) ∷ decimal (c .columns) ∷ [])
 
 -- clean and repaired have no rows and columns
 abbrev pub mendedCounts : Report → Counts

@@ -1,5 +1,5 @@
-// A dump in pieces of any size, its report line by line.
+// What each line of a dump gives in the report.
 mod line;
 mod report;
+pub mod say;
 pub mod sizes;
-pub mod state;

@@ -1,9 +1,9 @@
 // What a line gives in the report.
 use crate::report::put_decoded;
-use crate::report::put_questioned;
 use crate::sizes::MOST_BYTES;
 use frame::decode::Decoded;
 use frame::decode::decode;
+use lines::say::put_questioned;
 use text::hex::bytes_of;
 use text::hex::is_hex;
 use text::record::record_head;

@@ -9,18 +9,8 @@ use text::write::put_word;
 ghost use mathlib.Core.Path.{_≡_};
 ghost use Prim.Native.Nat.{_+_, _≤_};
 ghost use lib.ListN.{length};
-ghost use Rattle.textrules.specs.Dump.{questioned};
 ghost use Rattle.text.specs.Laid.{Lays};
 ghost use Rattle.dump.specs.ReportText.{lineRoom, countsRoom, mostLetters, countsText, wordAndCounts, mendedCounts, badCounts, refusedCounts, noCounts, reportText, decodedText};
-
-pub(crate) fn put_questioned(out: &mut [u8], at: usize, number: usize) -> usize
-    requires { ⌜ at + lineRoom ≤ length (now out) ⌝ }
-    ensures { λ r. ⌜ Lays (now (out .entry)) at (questioned number) r (now (out .exit)) ⌝ }
-{
-    let a = put(out, at, b"?");
-    let b = put_count(out, a, number);
-    put(out, b, b"\n")
-}
 
 // The numbers that close a record's line; a refusal has its own in the place of the passes.
 struct Counts {

@@ -9,16 +9,20 @@ use native.Mathlib.Nat.{sub-zero}
 use native.Mathlib.Numerals.{add-one}
 use native.Mathlib.Omega.{arith}
 use lib.Dec.{eqb, leb}
-use lib.ListN.{length, take, set}
+use lib.ListN.{length, take, set, length-take}
 use lib.Seq.{set-out, take-all, take-length}
 use borrow.Author.Tests.{eq-eqb, ne-eqb, lt-ltb, le-ltb, le-leb, lt-leb}
 use Rattle.rules.specs.Numbers.{pick}
 use Rattle.textrules.specs.Text.{Text, lf, same}
+use Rattle.textrules.specs.Programs.{Program}
 use Rattle.text.specs.Laid.{Lays}
+use Rattle.text.proofs.LaidLaws.{laid-none}
 use Rattle.lines.specs.declared.state.State.{State}
 use Rattle.lines.specs.declared.state.Event.{Event}
 use Rattle.lines.specs.declared.state.Event.the-variants.{Nothing, Header, Line, Long}
 use Rattle.lines.specs.Stream.{mostLines, following, isHeader, closed, nextLine, longer, isBetween, stateAfter, lineAfter, eventAfter, eventAtEnd}
+use Rattle.lines.specs.Say.{eventText}
+use Rattle.lines.specs.Calls.{Says}
 
 -- a choice, where its test is known
 pub picked {ℓ} : {A : Type ℓ} {b c : Bool} (x y : A) → b ≡ c → pick c x y ≡ pick b x y
@@ -37,7 +41,20 @@ keep-out line p x h = sym (set-out line p x h)
 pub lays-as : (out : List ℕ) (at r : ℕ) (exit : List ℕ) (t u : Text) → t ≡ u → Lays out at t r exit → Lays out at u r exit
 lays-as out at r exit t u e = subst (λ (x : Text). Lays out at x r exit) e
 
+-- what a program says of an event, known by its case
+pub says-as :
+    (p : Program) (e d : Event) → e ≡ d → (line out : List ℕ) (r : ℕ) (exit : List ℕ) → Lays out 0 (eventText p d line) r exit
+    → Says p e line out r exit
+says-as p e d q line out r exit = subst (λ (v : Event). Lays out 0 (eventText p v line) r exit) (sym q)
+
+-- nothing is laid
+pub lays-nothing : (out : List ℕ) → Lays out 0 [] 0 out
+lays-nothing out = (refl, omega arith, sym (laid-none out 0))
+
 -- ---- a part of the line buffer
+
+pub part-short : (line : List ℕ) (l most : ℕ) → length line ≤ most → length (take l line) ≤ most
+part-short line l most h = omega (arith, h, length-take l line)
 
 pub part-within : (line : List ℕ) (l : ℕ) → take (l - 0) line ≡ take l line
 part-within line l = ap (λ (k : ℕ). take k line) (sub-zero l)
