@@ -1,4 +1,4 @@
--- Laws of a line's fields: the number that a tab closes, and the three that open a record.
+-- Laws of a line's fields, as the code reads them: the number that a tab closes, the two that open a line, the three that open a record.
 -- Assumes nothing.
 use mathlib.Core.Path.{_≡_, refl, sym, ap, ap₂, _∙_}
 use mathlib.Core.Logic.{_⊎_, inl, inr}
@@ -14,10 +14,11 @@ use Rattle.bytes.specs.Bytes.{indexOf, indexAfter, slice}
 use Rattle.rules.specs.Numbers.{pick}
 use Rattle.textrules.specs.Text.{Text, tabulator, onto, parted, fields, isDecimal, decimalValue}
 use Rattle.rules.proofs.Laws.OneOfLaws.{and-both}
-use Rattle.text.specs.Read.{decimalOf, closedNumber, badField, fieldOf, badHead, headOf}
+use Rattle.text.specs.Read.{decimalOf, closedNumber, badField, fieldOf, badOpening, openingOf, badHead, headOf}
 use Rattle.text.specs.declared.number.Decimal.{Decimal}
 use Rattle.text.specs.declared.number.Decimal.the-variants.{Value, Bad}
 use Rattle.text.specs.declared.record.Field.{Field}
+use Rattle.text.specs.declared.record.Opening.{Opening}
 use Rattle.text.specs.declared.record.Head.{Head}
 use Rattle.text.proofs.ReadLaws.{number-read, number-not}
 
@@ -153,46 +154,83 @@ module _ (s : Text) (from : ℕ) where
       go true q = absurd (true≢false (sym (ap (λ (x : Field). x .«is_good») (field-closed q)) ∙ e))
       go false q = bad-broken q
 
--- ---- three numbers
+  pub broken-not : Broken → 2 ≤ length (fields (drop from s)) → isDecimal (getD (fields (drop from s)) 0 []) ≡ true → ⊥
+  broken-not (inl e) h d = omega arith
+  broken-not (inr e) h d = true≢false (sym d ∙ e)
 
-abbrev pub goodHead : Field → Field → Field → Head
-goodHead a b c = record { «is_good» = true; number = a .value; n = b .value; allowance = c .value; frame = c .after }
+-- ---- one of two things, by a test and by two
 
-abbrev pub headFrom : Field → Field → Field → Head
-headFrom a b c =
-    pick (a .«is_good» && b .«is_good» && c .«is_good») (goodHead a b c) badHead
+module _ {A : Type 0} (good bad : A) where
+  pub picked-not : (u : Bool) → (u ≡ true → ⊥) → pick u good bad ≡ bad
+  picked-not true h = absurd (h refl)
+  picked-not false h = refl
 
-module _ (s : Text) {a b c : Field} (ea : a ≡ fieldOf s 0) (eb : b ≡ fieldOf s (a .after)) (ec : c ≡ fieldOf s (b .after)) where
-  pub head-joined : headOf s ≡ headFrom a b c
+  -- what tells the good from the bad tells the test's answer
+  pub picked-is : (f : A → Bool) → f good ≡ true → f bad ≡ false → (u : Bool) → f (pick u good bad) ≡ u
+  picked-is f p q true = p
+  picked-is f p q false = q
+
+module _ {A : Type 0} (good bad : A) (a b : Bool) where
+  pick-both : a ≡ true → b ≡ true → good ≡ pick (a && b) good bad
+  pick-both p q = sym (ap (λ (u : Bool). pick u good bad) (ap₂ _&&_ p q))
+
+  pick-not-1 : a ≡ false → bad ≡ pick (a && b) good bad
+  pick-not-1 p = sym (ap (λ (u : Bool). pick (u && b) good bad) p)
+
+  pick-not-2 : b ≡ false → bad ≡ pick (a && b) good bad
+  pick-not-2 q = sym (ap (λ (u : Bool). pick u good bad) (ap (λ (u : Bool). a && u) q ∙ and-false a))
+
+-- ---- the two numbers that open a line
+
+abbrev pub goodOpening : Field → Field → Opening
+goodOpening a b = record { «is_good» = true; number = a .value; n = b .value; after = b .after }
+
+abbrev openingFrom : Field → Field → Opening
+openingFrom a b = pick (a .«is_good» && b .«is_good») (goodOpening a b) badOpening
+
+module _ (s : Text) {a b : Field} (ea : a ≡ fieldOf s 0) (eb : b ≡ fieldOf s (a .after)) where
+  pub opening-joined : openingFrom a b ≡ openingOf s
+  unfolding openingOf
+  opening-joined =
+      ap (openingFrom a) eb ∙ ap (λ (x : Field). openingFrom x (fieldOf s (x .after))) ea
+
+  pub opening-good : a .«is_good» ≡ true → b .«is_good» ≡ true → goodOpening a b ≡ openingOf s
+  opening-good p q = pick-both (goodOpening a b) badOpening (a .«is_good») (b .«is_good») p q ∙ opening-joined
+
+  -- one that is bad
+  module _ {o : Opening} (bad : o ≡ badOpening) where
+    no-opening : badOpening ≡ openingFrom a b → (o ≡ openingOf s) × (o .after ≤ length s)
+    no-opening e = (bad ∙ e ∙ opening-joined, omega (arith, ap (λ (x : Opening). x .after) bad))
+
+    pub opening-bad-1 : a .«is_good» ≡ false → (o ≡ openingOf s) × (o .after ≤ length s)
+    opening-bad-1 p = no-opening (pick-not-1 (goodOpening a b) badOpening (a .«is_good») (b .«is_good») p)
+
+    pub opening-bad-2 : b .«is_good» ≡ false → (o ≡ openingOf s) × (o .after ≤ length s)
+    opening-bad-2 q = no-opening (pick-not-2 (goodOpening a b) badOpening (a .«is_good») (b .«is_good») q)
+
+-- ---- the three numbers that open a record
+
+abbrev pub goodHead : Opening → Field → Head
+goodHead o c = record { «is_good» = true; number = o .number; n = o .n; allowance = c .value; frame = c .after }
+
+abbrev headFrom : Opening → Field → Head
+headFrom o c = pick (o .«is_good» && c .«is_good») (goodHead o c) badHead
+
+module _ (s : Text) {o : Opening} {c : Field} (eo : o ≡ openingOf s) (ec : c ≡ fieldOf s (o .after)) where
+  pub head-joined : headFrom o c ≡ headOf s
   unfolding headOf
-  head-joined =
-      ap (λ (x : Field). headFrom x (fieldOf s (x .after)) (fieldOf s (fieldOf s (x .after) .after))) (sym ea)
-      ∙ ap (λ (y : Field). headFrom a y (fieldOf s (y .after))) (sym eb)
-      ∙ ap (headFrom a b) (sym ec)
+  head-joined = ap (headFrom o) ec ∙ ap (λ (x : Opening). headFrom x (fieldOf s (x .after))) eo
 
-  head-of : {u : Bool} → (a .«is_good» && b .«is_good» && c .«is_good») ≡ u
-      → pick u (goodHead a b c) badHead ≡ headOf s
-  head-of e =
-      sym
-      (head-joined
-      ∙ ap (λ (u : Bool). pick u (goodHead a b c) badHead) e)
+  pub head-good : o .«is_good» ≡ true → c .«is_good» ≡ true → goodHead o c ≡ headOf s
+  head-good p q = pick-both (goodHead o c) badHead (o .«is_good») (c .«is_good») p q ∙ head-joined
 
   -- one that is bad
   module _ {h : Head} (bad : h ≡ badHead) where
-    none : (a .«is_good» && b .«is_good» && c .«is_good») ≡ false → (h ≡ headOf s) × (h .frame ≤ length s)
-    none e = (bad ∙ head-of e, omega (arith, ap (λ (x : Head). x .frame) bad))
+    no-head : badHead ≡ headFrom o c → (h ≡ headOf s) × (h .frame ≤ length s)
+    no-head e = (bad ∙ e ∙ head-joined, omega (arith, ap (λ (x : Head). x .frame) bad))
 
-    pub head-bad-1 : a .«is_good» ≡ false → (h ≡ headOf s) × (h .frame ≤ length s)
-    head-bad-1 e = none (ap (λ (u : Bool). u && b .«is_good» && c .«is_good») e)
+    pub head-bad-1 : o .«is_good» ≡ false → (h ≡ headOf s) × (h .frame ≤ length s)
+    head-bad-1 p = no-head (pick-not-1 (goodHead o c) badHead (o .«is_good») (c .«is_good») p)
 
-    pub head-bad-2 : b .«is_good» ≡ false → (h ≡ headOf s) × (h .frame ≤ length s)
-    head-bad-2 e =
-        none (ap (λ (u : Bool). a .«is_good» && u && c .«is_good») e ∙ ap (λ (u : Bool). u && c .«is_good») (and-false (a .«is_good»)))
-
-    pub head-bad-3 : c .«is_good» ≡ false → (h ≡ headOf s) × (h .frame ≤ length s)
-    head-bad-3 e = none (ap (λ (u : Bool). a .«is_good» && b .«is_good» && u) e ∙ and-false (a .«is_good» && b .«is_good»))
-
-  pub head-good :
-      a .«is_good» ≡ true → b .«is_good» ≡ true → c .«is_good» ≡ true
-      → goodHead a b c ≡ headOf s
-  head-good p q r = head-of (ap₂ (λ (u v : Bool). u && v && c .«is_good») p q ∙ r)
+    pub head-bad-2 : c .«is_good» ≡ false → (h ≡ headOf s) × (h .frame ≤ length s)
+    head-bad-2 q = no-head (pick-not-2 (goodHead o c) badHead (o .«is_good») (c .«is_good») q)

@@ -6,4 +6,7 @@ pub mod SameLaws
 -- A line's fields
 pub mod ReadLaws
 pub mod FieldLaws
+-- Whole lines
+pub mod OpeningLaws
 pub mod RecordLaws
+pub mod DataLaws

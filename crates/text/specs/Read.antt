@@ -10,6 +10,7 @@ use Rattle.textrules.specs.Text.{Text, tabulator, isDigit, digitValue, isDecima
 use Rattle.text.specs.declared.number.Decimal.{Decimal}
 use Rattle.text.specs.declared.number.Decimal.the-variants.{Value, Bad}
 use Rattle.text.specs.declared.record.Field.{Field}
+use Rattle.text.specs.declared.record.Opening.{Opening}
 use Rattle.text.specs.declared.record.Head.{Head}
 
 -- a field as a number, or none
@@ -37,21 +38,33 @@ fieldOf s from =
     let i : ℕ = indexOf tabulator rest in
     pick (closedNumber s from) (record { «is_good» = true; value = decimalValue (take i rest); after = from + i + 1 }) badField
 
+-- where one of the first two fields is bad
+abbrev pub badOpening : Opening
+badOpening = record { «is_good» = false; number = 0; n = 0; after = 0 }
+
+-- two fields, one after the other
+unfoldable pub openingOf : Text → Opening
+openingOf s =
+    let number : Field = fieldOf s 0 in
+    let n : Field = fieldOf s (number .after) in
+    pick (number .«is_good» && n .«is_good»)
+    (record { «is_good» = true; number = number .value; n = n .value; after = n .after })
+    badOpening
+
 -- where a field is bad
 abbrev pub badHead : Head
 badHead = record { «is_good» = false; number = 0; n = 0; allowance = 0; frame = 0 }
 
--- three fields, each after the one before
+-- two fields and one more
 unfoldable pub headOf : Text → Head
 headOf s =
-    let number : Field = fieldOf s 0 in
-    let n : Field = fieldOf s (number .after) in
-    let allowance : Field = fieldOf s (n .after) in
-    pick (number .«is_good» && n .«is_good» && allowance .«is_good»)
+    let opening : Opening = openingOf s in
+    let allowance : Field = fieldOf s (opening .after) in
+    pick (opening .«is_good» && allowance .«is_good»)
     (record {
       «is_good» = true;
-      number = number .value;
-      n = n .value;
+      number = opening .number;
+      n = opening .n;
       allowance = allowance .value;
       frame = allowance .after;
     })
