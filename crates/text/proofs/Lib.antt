@@ -1,6 +1,7 @@
 -- Texts laid into a buffer
 pub mod LaidLaws
 pub mod DecimalLaws
+pub mod HexLaws
 -- Texts compared
 pub mod SameLaws
 -- A line's fields

@@ -1,10 +1,10 @@
-// A frame in upper-case hex.
+// Bytes in upper-case hex, read and written.
 ghost use mathlib.Core.Path.{_≡_};
 ghost use mathlib.Core.Bool.{true};
-ghost use Prim.Native.Nat.{_*_, _/_, _≤_, _<_};
+ghost use Prim.Native.Nat.{_+_, _*_, _/_, _≤_, _<_};
 ghost use lib.ListN.{length};
-ghost use Rattle.textrules.specs.Text.{isHexDigit, hexValue, isHex, hexBytes};
-ghost use Rattle.text.specs.Laid.{laid};
+ghost use Rattle.textrules.specs.Text.{isHexDigit, hexValue, isHex, hexBytes, hexDigit, hexText};
+ghost use Rattle.text.specs.Laid.{laid, Lays};
 
 fn is_hex_digit(x: u8) -> bool
     ensures { λ r. ⌜ r ≡ isHexDigit x ⌝ }
@@ -60,4 +60,27 @@ pub fn bytes_of(digits: &[u8], frame: &mut [u8]) -> usize
         frame[i] = high * 16 + low;
     }
     bytes
+}
+
+fn hex_digit(h: u8) -> u8
+    requires { ⌜ h < 16 ⌝ }
+    ensures { λ r. ⌜ r ≡ hexDigit h ⌝ }
+{
+    if h < 10 {
+        return b'0' + h;
+    }
+    b'A' + (h - 10)
+}
+
+// Puts the digits at `at`, two a byte and the higher first, and returns where they end.
+pub fn put_hex(out: &mut [u8], at: usize, bytes: &[u8]) -> usize
+    requires { ⌜ at + 2 * length (now bytes) ≤ length (now out) ⌝ }
+    ensures { λ r. ⌜ Lays (now (out .entry)) at (hexText (now (bytes .entry))) r (now (out .exit)) ⌝ }
+{
+    for i in 0..bytes.len() {
+        let x = bytes[i];
+        out[at + 2 * i] = hex_digit(x / 16);
+        out[at + 2 * i + 1] = hex_digit(x % 16);
+    }
+    at + 2 * bytes.len()
 }

@@ -1,4 +1,4 @@
-// Texts in lent buffers: compared, digits, hex and fields read, words and numbers written.
+// Texts in lent buffers: compared, digits, hex and fields read, words, numbers and hex written.
 pub mod compare;
 pub mod hex;
 pub mod number;
