@@ -1,5 +1,6 @@
--- The dump and its report
+-- The dump and its report, and the factory's data
 pub mod Records
+pub mod DataRecords
 pub mod LongestLine
 pub mod Lines
 pub mod Outputs

@@ -1,4 +1,4 @@
--- Texts: numbers in decimal, fields, bytes in hex.
+-- Texts: numbers in decimal, fields.
 -- Assumes nothing.
 use mathlib.Core.Path.{_≡_, refl, sym, ap, ap₂, _∙_}
 use mathlib.Core.Logic.{_≢_}
@@ -12,9 +12,7 @@ use lib.Dec.{eqb}
 use lib.ListN.{length, getD, length-append, List·getD-append}
 use borrow.Author.Tests.{lt-ltb, le-ltb, ne-eqb, eqb-true}
 use Rattle.algebra.specs.Sums.{AllN}
-use Rattle.algebra.specs.Tables.{tab, tabFrom}
-use Rattle.algebra.proofs.TableLaws.{tab-suc, tab-ext}
-use Rattle.textrules.specs.Text.{Text, tabulator, parted, fields, every, digitValue, valueFrom, decimalValue, digits, decimal, hexValue, hexBytes}
+use Rattle.textrules.specs.Text.{Text, tabulator, parted, fields, every, digitValue, valueFrom, decimalValue, digits, decimal}
 use Rattle.rules.proofs.Laws.OneOfLaws.{and-both}
 
 -- ---- every entry of a text
@@ -211,23 +209,3 @@ fields-tabbed (x ∷ s) = go (eqb x tabulator) (fields s) refl (fields-tabbed s)
     go true parts e h = ap (λ t. tabulator ∷ t) h ∙ ap (λ y. tabulator ∷ (y ∷ s)) (sym (eqb-true x tabulator e))
     go false [] e h = absurd (cons-ne-nil tabulator s (sym h))
     go false (p ∷ ps) e h = ap (λ t. tabulator ∷ (x ∷ t)) (tail-eq-of-cons-eq h)
-
--- ---- hex
-
-pub hexBytes-none : hexBytes [] ≡ []
-unfolding hexBytes tab tabFrom
-hexBytes-none = refl
-
-pub hexBytes-two : (a b : ℕ) (s : Text) → hexBytes (a ∷ b ∷ s) ≡ (hexValue a * 16 + hexValue b) ∷ hexBytes s
-unfolding hexBytes
-hexBytes-two a b s =
-    let two : suc (suc (length s)) / 2 ≡ suc (length s / 2) = omega arith in
-    ap (λ m. tab m (λ i. hexValue (getD (a ∷ b ∷ s) (2 * i) 0) * 16 + hexValue (getD (a ∷ b ∷ s) (2 * i + 1) 0))) two
-    ∙ tab-suc (length s / 2) (λ i. hexValue (getD (a ∷ b ∷ s) (2 * i) 0) * 16 + hexValue (getD (a ∷ b ∷ s) (2 * i + 1) 0))
-    ∙ ap (λ l. (hexValue a * 16 + hexValue b) ∷ l)
-    (tab-ext (length s / 2) (λ i. hexValue (getD (a ∷ b ∷ s) (2 * suc i) 0) * 16 + hexValue (getD (a ∷ b ∷ s) (2 * suc i + 1) 0))
-    (λ i. hexValue (getD s (2 * i) 0) * 16 + hexValue (getD s (2 * i + 1) 0))
-    (λ i h.
-    let e : 2 * suc i ≡ suc (suc (2 * i)) = omega arith in
-    let f : 2 * suc i + 1 ≡ suc (suc (2 * i + 1)) = omega arith in
-    ap₂ (λ p q. hexValue (getD (a ∷ b ∷ s) p 0) * 16 + hexValue (getD (a ∷ b ∷ s) q 0)) e f))
