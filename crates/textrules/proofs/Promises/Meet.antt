@@ -23,7 +23,8 @@ use Rattle.textrules.specs.Dump.{badLine, lineOf, recordText, lineText, 
 use Rattle.textrules.specs.Factory.{longestData, DataLine, badData, someData, isData, dataOf, givenAllowance, blankFrame, dataText, writer}
 use Rattle.textrules.proofs.Laws.Computing.{computing}
 use Rattle.textrules.proofs.Laws.TextLaws.{Digit, decimal-digits, decimal-some, tabbed}
-use Rattle.textrules.proofs.Promises.Records.{recordLine, AreBytes, RecordFits, records, good-decimal}
+use Rattle.textrules.proofs.Promises.Records.{recordLine, AreBytes, RecordFits, records}
+use Rattle.textrules.proofs.Promises.DataRecords.{dataLine, DataFits, DataWrittenAs, data-records}
 use Rattle.textrules.proofs.Promises.LongestLine.{longest-line}
 use Rattle.textrules.proofs.Promises.Lines.{NoLF, lines-cut}
 use Rattle.textrules.proofs.Promises.Outputs.{joinedTexts, same-is, same-not, outputs, output-under, out-line, line-no-lf, decimal-no-lf, quoted-no-lf}
@@ -49,18 +50,19 @@ found =
       lineText = λ k s. foundText k (dataOf s);
     }
 
--- a line of the data, and what it says
+-- a record of the data
 pub record Sent : Type 0 where
-  pub line : Text
   pub number : ℕ
   pub n : ℕ
   pub message : List ℕ
 
--- it says so, and encoding accepts it
+-- how it is written
+abbrev pub sentLine : Sent → Text
+sentLine s = dataLine (s .number) (s .n) (s .message)
+
+-- a line has room for it, and encoding accepts it
 abbrev pub Accepted : Sent → Type 0
-Accepted s =
-    (dataOf (s .line) ≡ someData (s .number) (s .n) (s .message))
-    × (encodeNumber smallCode (s .n) (s .message) (blankFrame (s .n)) ≡ 0)
+Accepted s = DataFits (s .number) (s .n) (s .message) × (encodeNumber smallCode (s .n) (s .message) (blankFrame (s .n)) ≡ 0)
 
 -- the number, and that nothing was wrong
 abbrev pub foundClean : Sent → Text
@@ -100,9 +102,9 @@ pub record Meet : Type 0 where
       (input first : Text) (later : List Text) → lines input ≡ first ∷ later → first ≢ ascii "data\t1"
       → report (output writer input) ≡ ascii "bad header\n"
   pub no-header : (input : Text) → lines input ≡ [] → report (output writer input) ≡ ascii "bad header\n"
-  -- where encoding accepts every line, each is found clean
+  -- where encoding accepts every record, each is found clean
   pub all-clean :
-      (input : Text) (sent : List Sent) → lines input ≡ ascii "data\t1" ∷ map (λ s. s .line) sent → All Accepted sent
+      (input : Text) (sent : List Sent) → lines input ≡ ascii "data\t1" ∷ map sentLine sent → All Accepted sent
       → report (output writer input) ≡ ascii "repair\t1\n" ++ joinedTexts (map foundClean sent)
 
 -- ---- The example: antt computes it
@@ -293,18 +295,11 @@ NumberShort badData = Unit {0}
 NumberShort (someData number n message) = number < 10 ^ 9
 
 number-short : (s : Text) → NumberShort (dataOf s)
-unfolding dataOf
-number-short s = go (isData s) refl
+number-short s = go (dataOf s) (data-records .only-so s)
   where
-    go :
-        (b : Bool) → isData s ≡ b
-        → NumberShort (pick b (someData (decimalValue (fieldAt s 0)) (decimalValue (fieldAt s 1)) (hexBytes (fieldAt s 2))) badData)
-    go true h =
-        let length-and-fields : Bool = leb (length s) longestData && eqb (length (fields s)) 3 in
-        let k = and-both (length-and-fields && isDecimal (fieldAt s 0) && isDecimal (fieldAt s 1)) (isHex (fieldAt s 2)) h in
-        let l = and-both (length-and-fields && isDecimal (fieldAt s 0)) (isDecimal (fieldAt s 1)) (k .0) in
-        good-decimal (fieldAt s 0) (and-both length-and-fields (isDecimal (fieldAt s 0)) (l .0) .1) .1
-    go false h = tt
+    go : (l : DataLine) → DataWrittenAs s l → NumberShort l
+    go badData h = tt
+    go (someData number n message) h = h .1 .number-short
 
 found-each : (k : ℕ) (l : DataLine) → NumberShort l → Found k l
 found-each k badData h = found-bad k
@@ -332,12 +327,12 @@ both = chained writer repair found chain
 
 clean-from :
     (k : ℕ) (sent : List Sent) → All Accepted sent
-    → outputFrom found k (map (λ s. s .line) sent) ≡ joinedTexts (map foundClean sent)
+    → outputFrom found k (map sentLine sent) ≡ joinedTexts (map foundClean sent)
 unfolding outputFrom
 clean-from k [] h = refl
 clean-from k (s ∷ sent) h =
     let r : ℕ = encodeNumber smallCode (s .n) (s .message) (blankFrame (s .n)) in
-    ap₂ _++_ (ap (foundText k) (h .0 .0) ∙ at-zero r (foundClean s) (ascii "?\t" ++ decimal k ++ ascii "\n") (h .0 .1))
+    ap₂ _++_ (ap (foundText k) (data-records .read-back (s .number) (s .n) (s .message) (h .0 .0)) ∙ at-zero r (foundClean s) (ascii "?\t" ++ decimal k ++ ascii "\n") (h .0 .1))
     (clean-from (suc k) sent (h .1))
 
 pub meets : Meet
@@ -349,6 +344,6 @@ meets = record {
   no-header = λ input e. both input ∙ outputs found .no-header input e;
   all-clean = λ input sent e h.
       both input
-      ∙ output-under found input (map (λ s. s .line) sent) e
+      ∙ output-under found input (map sentLine sent) e
       ∙ ap (λ (t : Text). ascii "repair\t1\n" ++ t) (clean-from 2 sent h);
 }

@@ -28,7 +28,7 @@ use Rattle.textrules.proofs.Laws.Computing.{computing}
 use Rattle.textrules.proofs.Laws.TextLaws.{decimal-short}
 use Rattle.textrules.proofs.Promises.Lines.{NoLF, joinedLines}
 use Rattle.textrules.proofs.Promises.Outputs.{joinedTexts, outputs, one-lf, decimal-no-lf, quoted-no-lf}
-use Rattle.textrules.proofs.Promises.LongestLine.{hex-length}
+use Rattle.textrules.proofs.Laws.DigitFormLaws.{hex-length}
 
 -- ---- The statement
 

@@ -1,3 +1,7 @@
+use Rattle.textrules.specs.Dump.{longestLine, lineText, lineOf, repair}
+use Rattle.textrules.specs.Text.{Text}
+use Rattle.lines.proofs.StateLaws.{lays-as, says-as, lays-nothing, part-short}
+use Rattle.lines.specs.declared.state.Event.the-variants.{Nothing, Header, Line, Long}
 use mathlib.Core.Path.{_≡_, refl, sym, ap, _∙_}
 use mathlib.Core.Logic.{⊎-elim}
 use Prim.Native.Nat.{ℕ, zero, suc, _+_, _*_, _-_, _/_, _%_, _^_, _≤_, _<_}
@@ -27,7 +31,7 @@ part-requires : tie.Need-part-requires
 part-requires c κs = search needs
 
 put-reported-requires : tie.Need-put-reported-requires
-put-reported-requires c κs = search needs
+put-reported-requires c κs = (search needs, omega (arith, ap length (c .part .ensures), part-short (c .before .before .before .before .before .before .args .line .now) (c .before .before .before .before .event2 .given .0 .1 .0) longestLine (search needs)))
 
 enum-known-event-3 : tie.Need-enum-known-event-3
 enum-known-event-3 c = search needs
@@ -36,16 +40,16 @@ put-questioned-requires : tie.Need-put-questioned-requires
 put-questioned-requires c κs = search needs
 
 returns : tie.Need-returns
-returns c = search needs
+returns c = says-as repair _ Nothing (c .enum-told .given .1) _ _ _ _ (lays-nothing _)
 
 returns-2 : tie.Need-returns-2
-returns-2 c = search needs
+returns-2 c = says-as repair _ (Header (c .before .before .before .before .event .given .0 .0)) (c .before .before .before .before .event .given .1) _ _ _ _ (c .put-header .ensures)
 
 returns-3 : tie.Need-returns-3
-returns-3 c = search needs
+returns-3 c = says-as repair _ (Line (c .before .before .before .before .before .event2 .given .0 .0) (c .before .before .before .before .before .event2 .given .0 .1 .0)) (c .before .before .before .before .before .event2 .given .1) _ _ _ _ (lays-as _ _ _ _ _ _ (ap (λ (t : Text). lineText (c .before .before .before .before .before .event2 .given .0 .0) (lineOf t)) (c .before .part .ensures)) (c .put-reported .ensures))
 
 returns-4 : tie.Need-returns-4
-returns-4 c = search needs
+returns-4 c = says-as repair _ (Long (c .before .before .before .event3 .given .0 .0)) (c .before .before .before .event3 .given .1) _ _ _ _ (c .put-questioned .ensures)
 
 pub say-spec : {M : Type 1} → statement M
 say-spec =
