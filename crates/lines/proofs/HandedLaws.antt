@@ -80,13 +80,12 @@ module _ (p : Program) where
   record Took (k : Kept) (i : ℕ) (piece : Text) (e : Stop) : Type 0 where
     many : ℕ
     bytes : e .taken ≡ i + many
-    most : many ≤ length piece
     left : e .kept ≡ afterAll (p .header) k (take many piece)
     text : eventText p (e .event) (e .kept .line) ≡ handed k (take many piece)
 
   took-up : (piece : Text) (k : Kept) (i : ℕ) → Took k i piece (upToLf (p .header) k i piece)
   unfolding upToLf afterAll handed
-  took-up [] k i = record { many = 0; bytes = omega arith; most = omega arith; left = refl; text = refl }
+  took-up [] k i = record { many = 0; bytes = omega arith; left = refl; text = refl }
   took-up (x ∷ piece) k i = go (ℕ-discrete x lf) (took-up piece (keptAfter (p .header) k x) (suc i))
     where
       go :
@@ -97,7 +96,6 @@ module _ (p : Program) where
           record {
             many = 1;
             bytes = ap (λ (u : Stop). u .taken) q ∙ omega arith;
-            most = omega arith;
             left = ap (λ (u : Stop). u .kept) q;
             text = ap (λ (u : Stop). eventText p (u .event) (u .kept .line)) q ∙ sym (append-nil (textAfter k x));
           }
@@ -106,7 +104,6 @@ module _ (p : Program) where
           record {
             many = suc (t .many);
             bytes = ap (λ (u : Stop). u .taken) q ∙ t .bytes ∙ omega arith;
-            most = omega (arith, t .most);
             left = ap (λ (u : Stop). u .kept) q ∙ t .left;
             text =
                 ap (λ (u : Stop). eventText p (u .event) (u .kept .line)) q
@@ -124,7 +121,6 @@ module _ (p : Program) where
           record {
             many = length piece;
             bytes = ap (λ (u : Stop). u .taken) q ∙ omega arith;
-            most = omega arith;
             left = ap (λ (u : Stop). u .kept) q ∙ sym (after-all-rejected (p .header) (take (length piece) piece) k e);
             text = ap (λ (u : Stop). eventText p (u .event) (u .kept .line)) q ∙ sym (handed-rejected (take (length piece) piece) k e);
           }
@@ -147,10 +143,47 @@ module _ (p : Program) where
         ∙ w .text
         ∙ ap (λ (j : ℕ). handed (keeping s line) (take j piece)) many-taken
 
-    pub piece-within : r .taken ≤ length piece
-    piece-within = omega (arith, many-taken, w .most)
+-- ---- bytes one after the other
 
--- ---- of a piece with a byte, at least one is taken
+pub leaves-some : (p : Program) (k : Kept) (m : Text) → (j : ℕ) × (stopped (p .header) k m .kept ≡ afterAll (p .header) k (take j m))
+leaves-some p k m = let t = took p k m in (t .many, t .left)
+
+pub some-none : (header : Text) (s : State) (line : List ℕ) (k : Kept) → k ≡ keeping s line → LeavesSome header s line (k .state) (k .line)
+unfolding afterAll
+some-none header s line k e = ([], e)
+
+pub some-then :
+    (header : Text) (s : State) (line : List ℕ) (s₁ : State) (line₁ : List ℕ) (s₂ : State) (line₂ : List ℕ)
+    → LeavesSome header s line s₁ line₁ → LeavesSome header s₁ line₁ s₂ line₂ → LeavesSome header s line s₂ line₂
+some-then header s line s₁ line₁ s₂ line₂ (a, e) (b, q) =
+    (a ++ b, q ∙ ap (λ (k : Kept). afterAll header k b) e ∙ sym (after-append header a b (keeping s line)))
+
+-- ---- of a piece no more is taken than there is
+
+up-most : (header : Text) (piece : Text) (k : Kept) (i : ℕ) → upToLf header k i piece .taken ≤ i + length piece
+unfolding upToLf
+up-most header [] k i = omega arith
+up-most header (x ∷ piece) k i = go (ℕ-discrete x lf) (up-most header piece (keptAfter header k x) (suc i))
+  where
+    go :
+        Dec (x ≡ lf) → upToLf header (keptAfter header k x) (suc i) piece .taken ≤ suc i + length piece
+        → upToLf header k i (x ∷ piece) .taken ≤ i + suc (length piece)
+    go (yes e) h = omega (arith, ap (λ (u : Stop). u .taken) (up-lf header k i x piece e))
+    go (no d) h = omega (arith, h, ap (λ (u : Stop). u .taken) (up-other header k i x piece d))
+
+stopped-most : (header : Text) (k : Kept) (piece : Text) → stopped header k piece .taken ≤ length piece
+stopped-most header k piece = go (k .state .rejected) refl
+  where
+    go : (b : Bool) → k .state .rejected ≡ b → stopped header k piece .taken ≤ length piece
+    go true e = omega (arith, ap (λ (u : Stop). u .taken) (stopped-rejected header k piece e))
+    go false e = omega (arith, ap (λ (u : Stop). u .taken) (stopped-going header k piece e), up-most header piece k 0)
+
+pub piece-within :
+    (header : Text) (s : State) (piece : Text) (line : List ℕ) (r : Taken) (line₁ : List ℕ) → Takes header s piece line r line₁
+    → r .taken ≤ length piece
+piece-within header s piece line r line₁ t = omega (arith, t .2, stopped-most header (keeping s line) piece)
+
+-- ---- and of one with a byte, at least one
 
 up-least : (header : Text) (piece : Text) (k : Kept) (i : ℕ) → i ≤ upToLf header k i piece .taken
 unfolding upToLf

@@ -107,7 +107,7 @@ calls-bytes p (c ∷ later) s line end left (t, l, rest) =
 
 pub pieces : (p : Program) → Sound p → Pieces p
 pieces p ok = record {
-  within = piece-within p;
+  within = piece-within (p .header);
   some = piece-some (p .header);
   whole = λ line f calls end left c last q out n exit e h.
       let b = calls-bytes p calls atStart line end left c in

@@ -16,7 +16,7 @@ use Rattle.rules.specs.Numbers.{pick}
 use Rattle.textrules.specs.Text.{Text, lf, same}
 use Rattle.textrules.specs.Programs.{Program}
 use Rattle.text.specs.Laid.{Lays}
-use Rattle.text.proofs.LaidLaws.{laid-none}
+use Rattle.text.proofs.LaidLaws.{laid-none, lays-length}
 use Rattle.lines.specs.declared.state.State.{State}
 use Rattle.lines.specs.declared.state.Event.{Event}
 use Rattle.lines.specs.declared.state.Event.the-variants.{Nothing, Header, Line, Long}
@@ -46,6 +46,10 @@ pub says-as :
     (p : Program) (e d : Event) → e ≡ d → (line out : List ℕ) (r : ℕ) (exit : List ℕ) → Lays out 0 (eventText p d line) r exit
     → Says p e line out r exit
 says-as p e d q line out r exit = subst (λ (v : Event). Lays out 0 (eventText p v line) r exit) (sym q)
+
+-- a text that is laid stands within the lent buffer
+pub lays-within : (out : List ℕ) (at : ℕ) (t : Text) (r : ℕ) (exit : List ℕ) → Lays out at t r exit → r ≤ length exit
+lays-within out at t r exit h = omega (arith, h .1, lays-length out at t r exit h)
 
 -- nothing is laid
 pub lays-nothing : (out : List ℕ) → Lays out 0 [] 0 out

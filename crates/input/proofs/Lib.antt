@@ -1,0 +1,2 @@
+-- What a step leaves
+pub mod StepLaws

@@ -1,0 +1,2 @@
+-- What the contracts of the functions cite that read standard input.
+pub mod Calls
