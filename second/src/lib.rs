@@ -37,8 +37,10 @@
 
 mod answer;
 mod bits;
+pub mod data;
 pub mod dump;
 mod frame;
+mod lines;
 mod matrix;
 mod word;
 

@@ -57,6 +57,6 @@ archives() {
 }
 
 export CARGO_TARGET_DIR=$PWD/target/cargo
-rust() { # FOLDER: builds the programs of a crate
-    cargo build --quiet --release --offline --locked --manifest-path "$1/Cargo.toml"
+rust() { # FOLDER [OPTION...]: builds the programs of a crate
+    cargo build --quiet --release --offline --locked --manifest-path "$1/Cargo.toml" "${@:2}"
 }

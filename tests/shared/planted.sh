@@ -1,8 +1,8 @@
 # shellcheck shell=bash
 # A comparison can fail: on a copy of the second program with one error planted in it, it must report a difference. Each file of
 # planted.d is one error, as an edit: a file of second/, its old text, which must be there once, and the new text. The test
-# defines `build`, which makes what is compared of the copy $room/second, `few`, which compares few cases, and `shows`, whether
-# the case that is printed as a difference shows it.
+# defines `build`, which makes what is compared of the copy $room/second, `few`, which is handed the edit, or nothing, and compares
+# few cases, and `shows`, whether the case that is printed as a difference shows it.
 
 field() { # NAME EDIT
     sed -n "s/^$1: \{0,1\}//p" "$2"
@@ -37,7 +37,7 @@ planted() { # FOLDER of the edits
         name="planted: ${edit##*/}"
         rm -rf "$room/second" && cp -R "$room/unchanged" "$room/second" || exit 1
         if [ -z "$edit" ]; then
-            if build >"$room/said" 2>&1 && few >"$room/said" 2>&1; then
+            if build >"$room/said" 2>&1 && few "$edit" >"$room/said" 2>&1; then
                 ok "planted: nothing: $(tail -n 1 "$room/said")"
             else
                 bad "planted: nothing: the copy does not pass as it is"$'\n'"$(tail -n 20 "$room/said")"
@@ -46,7 +46,7 @@ planted() { # FOLDER of the edits
             bad "$name: its old text is not just once in second/$(field file "$edit")"
         elif ! build >"$room/said" 2>&1; then
             bad "$name: it can not be built"$'\n'"$(tail -n 20 "$room/said")"
-        elif few >"$room/said" 2>&1; then
+        elif few "$edit" >"$room/said" 2>&1; then
             bad "$name: the comparison passes all the same"
         else
             said=$(found "$edit")

@@ -3,10 +3,8 @@
 use mathlib.Core.Path.{_≡_, sym, ap, subst, _∙_}
 use mathlib.Core.Bool.{Bool, true, false, not}
 use mathlib.Core.List.{List}
-use Prim.Native.Nat.{ℕ, _-_, _≤_}
-use native.Mathlib.Omega.{arith}
-use lib.ListN.{length, take, drop, length-drop}
-use lib.Seq.{take-all}
+use Prim.Native.Nat.{ℕ, _≤_}
+use lib.ListN.{length, drop}
 use borrow.Author.Tests.{not-true, not-false}
 use Rattle.rules.specs.Codes.{smallCode}
 use Rattle.rules.specs.Numbers.{decodeSaid}
@@ -19,22 +17,9 @@ use Rattle.text.specs.declared.record.Head.{Head}
 use Rattle.text.specs.Laid.{Lays}
 use Rattle.text.specs.Read.{headOf}
 use Rattle.dump.specs.ReportText.{decodedText}
+use Rattle.text.proofs.LastFieldLaws.{digitsAt, digits-rest}
 use Rattle.text.proofs.RecordLaws.{line-bad-head, line-bad-frame, line-record}
 use Rattle.dump.proofs.ReportTextLaws.{decoded-said}
-
--- the fourth field, as the code has it
-abbrev pub digitsAt : Text → ℕ → Text
-digitsAt s from = take (length s - from) (drop from s)
-
-digits-rest : (s : Text) (from : ℕ) → digitsAt s from ≡ drop from s
-digits-rest s from = take-all (length s - from) (drop from s) (omega (arith, length-drop from s))
-
-pub digits-short : (s : Text) (from : ℕ) → length s ≤ longestLine → length (digitsAt s from) ≤ longestLine
-digits-short s from h = omega (arith, ap length (digits-rest s from), length-drop from s)
-
--- the test that the code made, of a part as the code has it
-pub hex-known : (x : Bool) (d : Text) → x ≡ isHex d → not x ≡ false → isHex d ≡ true
-hex-known x d q b = sym q ∙ not-false x b
 
 module _ (s : Text) (h : Head) (e : h ≡ headOf s) (k : ℕ) (out : List ℕ) (at r : ℕ) (exit : List ℕ) where
   as-line : (l : Line) → lineOf s ≡ l → Lays out at (lineText k l) r exit → Lays out at (lineText k (lineOf s)) r exit

@@ -1,9 +1,6 @@
 // The sizes of what is lent.
+use square::sizes::GREATEST_FRAME;
 use text::number::MOST_DIGITS;
-use word::sizes::LONGEST;
-
-// The bytes of the greatest frame.
-const GREATEST_FRAME: usize = LONGEST * ((LONGEST + 7) / 8);
 
 // The characters of the longest line, its LF not counted: three numbers, each with a tab after it, and the greatest frame in hex.
 pub const LONGEST_LINE: usize = 3 * (MOST_DIGITS + 1) + 2 * GREATEST_FRAME;

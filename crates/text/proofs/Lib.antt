@@ -11,3 +11,4 @@ pub mod FieldLaws
 pub mod OpeningLaws
 pub mod RecordLaws
 pub mod DataLaws
+pub mod LastFieldLaws

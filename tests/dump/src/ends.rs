@@ -1,7 +1,7 @@
-//! How a dump begins and ends: with and without a last LF, with many, with nothing.
+//! How an input begins and ends: with and without a last LF, with many, with nothing.
 
 use crate::records::{self, Maker};
-use crate::text::{Dump, Line};
+use crate::text::{Input, Line};
 
 fn last_lines(maker: &mut Maker) -> Vec<Vec<Line>> {
     let bad = |text: &[u8]| vec![Line::bad(text)];
@@ -10,6 +10,9 @@ fn last_lines(maker: &mut Maker) -> Vec<Vec<Line>> {
         bad(b"\r"),
         bad(b"\0"),
         bad(b"x"),
+        bad(b"0\t18"),
+        bad(b"0\t18\t\r"),
+        bad(b"0\t18\t0"),
         bad(b"0\t18\t2"),
         bad(b"0\t18\t2\t\r"),
         bad(b"0\t18\t2\t0"),
@@ -18,36 +21,37 @@ fn last_lines(maker: &mut Maker) -> Vec<Vec<Line>> {
         vec![Line::bad("x"), Line::bad("")],
         vec![Line::bad("\r"), Line::bad("\r")],
     ];
-    endings.push(vec![records::clean(maker, 18)]);
-    endings.push(vec![records::within_promise(maker, 31)]);
+    endings.push(vec![records::good(maker, 18)]);
+    endings.push(vec![records::good(maker, 31)]);
     endings.push(vec![records::refused(maker)]);
-    endings.push(vec![records::clean(maker, 18), Line::bad("")]);
-    endings.push(vec![Line::bad(""), records::clean(maker, 18)]);
+    endings.push(vec![records::good(maker, 18), Line::bad("")]);
+    endings.push(vec![Line::bad(""), records::good(maker, 18)]);
     for empty in 1..=5 {
         endings.push(vec![Line::bad(""); empty]);
-        let mut lines = vec![records::clean(maker, 19)];
+        let mut lines = vec![records::good(maker, 19)];
         lines.extend(vec![Line::bad(""); empty]);
         endings.push(lines);
     }
     endings
 }
 
-pub fn all(maker: &mut Maker) -> Vec<Dump> {
+pub fn all(maker: &mut Maker) -> Vec<Input> {
     // No first line at all, and an empty one.
-    let mut dumps = vec![Dump::new(Vec::new(), false)];
+    let job = maker.job;
+    let mut inputs = vec![Input::new(job, Vec::new(), false)];
     for empty in 1..=3 {
-        dumps.push(Dump::new(vec![Line::bad(""); empty], true));
+        inputs.push(Input::new(job, vec![Line::bad(""); empty], true));
     }
-    let late = vec![Line::bad(""), Line::header(), records::clean(maker, 18)];
-    dumps.push(Dump::new(late, true));
+    let late = vec![Line::bad(""), Line::header(job), records::good(maker, 18)];
+    inputs.push(Input::new(job, late, true));
     for lines in last_lines(maker) {
-        let mut after = vec![records::clean(maker, 20), Line::bad("")];
+        let mut after = vec![records::good(maker, 20), Line::bad("")];
         after.extend(lines.clone());
         for lines in [lines, after] {
             for closed in [true, false] {
-                dumps.push(Dump::of(lines.clone(), closed));
+                inputs.push(Input::of(job, lines.clone(), closed));
             }
         }
     }
-    dumps
+    inputs
 }

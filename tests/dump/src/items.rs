@@ -1,9 +1,13 @@
-//! Records whose report the rules write down, or that follows at once from their bench items or from what is promised.
+//! Records whose answer the rules write down, or that follows at once from their bench items or from what is promised.
 
+use crate::data::{all_ones, refused_line, taken};
+use crate::frames;
+use crate::job::{Job, REPAIR, WRITE};
 use crate::records;
-use crate::text::{Dump, Line};
-use shared::bits::{bit, clear_spare_bits, flip_at, square_bytes};
+use crate::text::{Expect, Input, Line};
+use shared::bits::{bit, clear_spare_bits, flip_at, square_bytes, LONGEST};
 use shared::damage;
+use shared::score::hex;
 
 /// At n = 18, the one codeword beside zero.
 const OTHER: [u8; 3] = [0xb7, 0xb1, 0xc0];
@@ -39,7 +43,7 @@ fn ones(n: usize, spare: bool) -> Vec<u8> {
 }
 
 fn line(number: usize, n: usize, allowance: usize, frame: &[u8], said: &str) -> Line {
-    Line::says(records::text(number, n, allowance, frame), number, said)
+    Line::says(frames::text(number, n, allowance, frame), number, said)
 }
 
 fn example() -> Vec<Line> {
@@ -114,13 +118,65 @@ fn of_ones(n: usize) -> Vec<Line> {
     lines
 }
 
-pub fn all() -> Vec<Dump> {
+/// Data whose frame is this one.
+fn written(number: usize, n: usize, data: &[u8], frame: &[u8]) -> Line {
+    let said = format!("{}\t{}\t8\t{}", number, n, hex(frame));
+    Line { text: records::text(&WRITE, number, n, data), expect: Expect::Exactly(said) }
+}
+
+fn data_at_18() -> Vec<Line> {
+    let (zero, one) = (corner(0, 1), data_bit_1());
+    vec![
+        written(0, 18, &[0], &zero),
+        written(999_999_999, 18, &[0x80], &one),
+        refused_line(2, 18, &[0x40], 5),
+        refused_line(3, 18, &[0x81], 5),
+        refused_line(4, 18, &[], 2),
+        refused_line(5, 18, &[0x80, 0], 2),
+        refused_line(6, 18, &[0xff; 2], 2),
+        refused_line(7, 18, &one, 2),
+        refused_line(8, 17, &[0], 1),
+        refused_line(9, 0, &[], 1),
+        refused_line(10, 257, &[0xff; 3], 1),
+        refused_line(999_999_999, 999_999_999, &[0x80], 1),
+        written(0, 18, &[0x80], &one),
+    ]
+}
+
+/// At 256, and about it: all data bits ones, and all but one.
+fn data_of_ones() -> Vec<Line> {
+    let ones = all_ones(LONGEST);
+    let (mut all_but_one, mut spare) = (ones.clone(), ones.clone());
+    *all_but_one.last_mut().unwrap() ^= 2;
+    *spare.last_mut().unwrap() ^= 1;
+    vec![
+        refused_line(0, LONGEST, &ones, 10),
+        refused_line(1, LONGEST, &spare, 5),
+        refused_line(2, LONGEST, &ones[1..], 2),
+        refused_line(3, LONGEST + 1, &ones, 1),
+        refused_line(4, LONGEST - 1, &ones, 2),
+        taken(5, LONGEST, all_but_one),
+        taken(6, LONGEST - 1, all_ones(LONGEST - 1)),
+        written(7, LONGEST, &vec![0; ones.len()], &vec![0; square_bytes(LONGEST)]),
+    ]
+}
+
+/// All parts together, and each by itself.
+fn inputs(job: &'static Job, parts: Vec<Vec<Line>>) -> Vec<Input> {
+    let mut inputs = vec![Input::of(job, parts.concat(), true)];
+    for lines in parts {
+        inputs.push(Input::of(job, lines.clone(), true));
+        inputs.push(Input::of(job, lines, false));
+    }
+    inputs
+}
+
+pub fn decoded() -> Vec<Input> {
     let mut parts = vec![example(), at_18(), most_bits()];
     parts.extend([18, 20, 195, 256].map(of_ones));
-    let mut dumps = vec![Dump::of(parts.concat(), true)];
-    for lines in parts {
-        dumps.push(Dump::of(lines.clone(), true));
-        dumps.push(Dump::of(lines, false));
-    }
-    dumps
+    inputs(&REPAIR, parts)
+}
+
+pub fn encoded() -> Vec<Input> {
+    inputs(&WRITE, vec![data_at_18(), data_of_ones()])
 }

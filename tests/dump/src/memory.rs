@@ -1,11 +1,10 @@
-//! The program's memory does not grow with the dump.
+//! A program's memory does not grow with its input.
 
 use crate::compare::Sides;
 use crate::process::{read_all, Outcome, Program};
-use crate::records::{self, Maker};
+use crate::records::{self, most_bytes, Maker};
 use crate::system;
 use crate::watch::pause;
-use second::dump::report_with;
 use shared::score::Score;
 use std::io::Write;
 use std::process::{ChildStdin, Stdio};
@@ -19,7 +18,7 @@ const MOST_GROWTH: usize = 256;
 /// Stack and address space in KiB. The buffers are to take less than 64, and all are on the stack.
 const LIMITS: [&str; 2] = ["-s 72", "-v 16384"];
 
-/// A dump that is made while it is written: one part, and then another many times.
+/// An input that is made while it is written: one part, and then another many times.
 struct Parts<'a> {
     head: &'a [u8],
     block: &'a [u8],
@@ -49,8 +48,8 @@ fn measure(program: &Program, parts: &Parts) -> Measured {
     let mut pipe = running.input.take().unwrap();
     let process = running.process;
     let output = &mut running.output;
-    let (report, peaks) = thread::scope(|scope| {
-        let report = scope.spawn(move || read_all(output));
+    let (said, peaks) = thread::scope(|scope| {
+        let said = scope.spawn(move || read_all(output));
         parts.write(&mut pipe);
         let mut tries = 0;
         // Until it has read all and asks for more.
@@ -59,9 +58,9 @@ fn measure(program: &Program, parts: &Parts) -> Measured {
         }
         let peaks = system::peaks(process);
         drop(pipe);
-        (report.join().unwrap(), peaks)
+        (said.join().unwrap(), peaks)
     });
-    Measured { outcome: program.outcome(&running, report), peaks }
+    Measured { outcome: program.outcome(&running, said), peaks }
 }
 
 /// With the most of a few peaks: what the system counts may lag behind by some pages.
@@ -74,19 +73,20 @@ fn measure_small(program: &Program, parts: &Parts) -> Measured {
     small
 }
 
-/// Lines of all sorts, of which some hundreds fill the large dump.
+/// Lines of all sorts, of which some hundreds fill the large input.
 fn block(maker: &mut Maker) -> Vec<u8> {
+    let (job, longest) = (maker.job, maker.job.longest_line);
     let mut texts = vec![
-        records::clean(maker, 256).text,
-        records::within_promise(maker, 195).text,
+        records::good(maker, 256).text,
+        records::good(maker, 195).text,
         vec![b'0'; 20_000],
-        vec![b'\t'; 16_415],
+        vec![b'\t'; longest + 1],
         Vec::new(),
     ];
     for n in 18..28 {
-        texts.push(records::any_frame(maker, n).text);
-        texts.push(vec![b'x'; 16_414]);
-        texts.push(records::text(n, n, 2, &[0xc7; 8200]));
+        texts.push(records::any(maker, n).text);
+        texts.push(vec![b'x'; longest]);
+        texts.push(records::text(job, n, n, &vec![0xc7; most_bytes(job)]));
     }
     texts.push(Vec::new());
     texts.join(&b'\n')
@@ -107,20 +107,21 @@ fn check(score: &mut Score, name: &str, small: &Measured, large: &Measured, expe
 }
 
 pub fn checks(sides: &Sides, maker: &mut Maker, score: &mut Score) {
-    let program = sides.program;
-    let (block, header) = (block(maker), &b"frames\t1\n"[..]);
-    let [once, many] = [1, LARGE / block.len() + 1].map(|times| Parts { head: header, block: &block, times });
+    let (program, job) = (sides.program, maker.job);
+    let (block, header) = (block(maker), [job.header(), b"\n".to_vec()].concat());
+    let [once, many] = [1, LARGE / block.len() + 1].map(|times| Parts { head: &header, block: &block, times });
     let small = measure_small(program, &once);
-    let expected = report_with(sides.code, &[header, &block.repeat(many.times)].concat());
-    check(score, "64 MiB of lines of all sorts", &small, &measure(program, &many), &expected);
+    let expected = (job.of_all)(sides.code, &[&header[..], &block.repeat(many.times)].concat());
+    check(score, &job.check("64 MiB of lines of all sorts"), &small, &measure(program, &many), &expected);
     let limited = Program { limits: LIMITS.to_vec(), ..program.clone() };
     let little = "64 MiB with a stack of 72 KiB, and 16 MiB in all";
-    check(score, little, &small, &measure(&limited, &many), &expected);
+    check(score, &job.check(little), &small, &measure(&limited, &many), &expected);
     let piece = vec![b'A'; 1 << 16];
     let endless = |head| measure(program, &Parts { head, block: &piece, times: LARGE / piece.len() });
-    check(score, "a line of 64 MiB", &small, &endless(header), b"repair\t1\n?\t2\n");
+    let bad = format!("{}\n?\t2\n", job.answer);
+    check(score, &job.check("a line of 64 MiB"), &small, &endless(&header), bad.as_bytes());
     let mut first = endless(b"");
     // It may end before its input does, as soon as the first line is too long.
     first.peaks = first.peaks.or(small.peaks);
-    check(score, "a first line of 64 MiB", &small, &first, b"bad header\n");
+    check(score, &job.check("a first line of 64 MiB"), &small, &first, b"bad header\n");
 }

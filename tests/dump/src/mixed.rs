@@ -1,13 +1,14 @@
-//! Dumps of all sorts of lines.
+//! Inputs of all sorts of lines.
 
+use crate::job::Job;
 use crate::long;
 use crate::records::{self, Maker};
-use crate::text::{Dump, Line};
+use crate::text::{Input, Line};
 use crate::wrong;
 use shared::bits::{LONGEST, SHORTEST};
 
 /// Up to 24 lines, good and bad, and `bad` of the bad ones drawn from.
-pub fn mixed(maker: &mut Maker, bad: &[Line]) -> Dump {
+pub fn mixed(maker: &mut Maker, bad: &[Line]) -> Input {
     let count = match maker.random.below(20) {
         0 => 0,
         1..=4 => maker.random.within(1, 3),
@@ -18,7 +19,7 @@ pub fn mixed(maker: &mut Maker, bad: &[Line]) -> Dump {
         lines.push(match maker.random.below(100) {
             0..=44 => {
                 let n = records::length(&mut maker.random);
-                records::any_frame(maker, n)
+                records::any(maker, n)
             }
             45..=64 => records::refused(maker),
             65 if maker.random.once_in(4) => long::any(maker),
@@ -26,13 +27,13 @@ pub fn mixed(maker: &mut Maker, bad: &[Line]) -> Dump {
             _ => Line::bad(""),
         });
     }
-    Dump::of(lines, maker.random.once_in(2))
+    Input::of(maker.job, lines, maker.random.once_in(2))
 }
 
-/// A mixed dump in which a few bytes are changed, put in or left out.
-pub fn damaged(maker: &mut Maker, bad: &[Line]) -> Dump {
+/// A mixed input in which a few bytes are changed, put in or left out.
+pub fn damaged(maker: &mut Maker, bad: &[Line]) -> Input {
     let mut bytes = mixed(maker, bad).bytes();
-    let random = &mut maker.random;
+    let (random, first) = (&mut maker.random, maker.job.header().len() + 1);
     for _ in 0..random.within(1, 6) {
         const LIKELY: &[u8] = b"\t\n\r 0123456789ABCDEFabcdefG@`/:";
         let byte = match random.below(4) {
@@ -40,7 +41,7 @@ pub fn damaged(maker: &mut Maker, bad: &[Line]) -> Dump {
             _ => LIKELY[random.below(LIKELY.len())],
         };
         // The first line mostly stays good.
-        let low = if random.once_in(20) { 0 } else { 9 };
+        let low = if random.once_in(20) { 0 } else { first };
         if bytes.len() <= low {
             continue;
         }
@@ -51,66 +52,60 @@ pub fn damaged(maker: &mut Maker, bad: &[Line]) -> Dump {
             _ => drop(bytes.remove(place)),
         }
     }
-    Dump::raw(&bytes)
+    Input::raw(maker.job, &bytes)
 }
 
 /// One of each sort, for every n.
-pub fn every_length(maker: &mut Maker, index: usize) -> Dump {
+pub fn every_length(maker: &mut Maker, index: usize) -> Input {
     let n = SHORTEST + index % (LONGEST - SHORTEST + 1);
-    let lines = vec![
-        records::clean(maker, n),
-        records::within_promise(maker, n),
-        records::past_promise(maker, n),
-        records::random_frame(maker, n),
-        records::erased(maker, n),
-    ];
-    Dump::of(lines, maker.random.once_in(2))
+    let lines = (maker.job.each_sort)(maker, n);
+    Input::of(maker.job, lines, maker.random.once_in(2))
 }
 
-pub fn refused(maker: &mut Maker) -> Dump {
+pub fn refused(maker: &mut Maker) -> Input {
     let lines = (0..20).map(|_| records::refused(maker)).collect();
-    Dump::of(lines, maker.random.once_in(2))
+    Input::of(maker.job, lines, maker.random.once_in(2))
 }
 
 /// Some of the bad lines, each followed by a record.
-pub fn some_bad(maker: &mut Maker, bad: &[Line]) -> Dump {
+pub fn some_bad(maker: &mut Maker, bad: &[Line]) -> Input {
     let mut lines = Vec::new();
     for line in bad {
         lines.push(line.clone());
         if maker.random.once_in(2) {
-            lines.push(records::any_frame(maker, 18));
+            lines.push(records::any(maker, 18));
         }
     }
-    Dump::of(lines, maker.random.once_in(2))
+    Input::of(maker.job, lines, maker.random.once_in(2))
 }
 
-/// Bad in every way, in dumps of a few of them.
-pub fn bad_in_every_way(maker: &mut Maker) -> Vec<Dump> {
+/// Bad in every way, in inputs of a few of them.
+pub fn bad_in_every_way(maker: &mut Maker) -> Vec<Input> {
     let all = wrong::all(maker);
     all.chunks(10).map(|some| some_bad(maker, some)).collect()
 }
 
-/// Every byte at each place of a line, in dumps of a few hundred lines.
-pub fn every_byte(maker: &mut Maker) -> Vec<Dump> {
-    let mut dumps = Vec::new();
-    while let Some(lines) = wrong::every_byte_at(maker, dumps.len()) {
-        dumps.push(some_bad(maker, &lines));
+/// Every byte at each place of a line, in inputs of a few hundred lines.
+pub fn every_byte(maker: &mut Maker) -> Vec<Input> {
+    let mut inputs = Vec::new();
+    while let Some(lines) = wrong::every_byte_at(maker, inputs.len()) {
+        inputs.push(some_bad(maker, &lines));
     }
-    dumps
+    inputs
 }
 
 /// So many empty lines.
-pub fn empty_lines(count: usize) -> Dump {
-    Dump::of(vec![Line::bad(""); count], true)
+pub fn empty_lines(job: &'static Job, count: usize) -> Input {
+    Input::of(job, vec![Line::bad(""); count], true)
 }
 
 /// So many short lines: records and bad ones.
-pub fn short_lines(maker: &mut Maker, count: usize) -> Dump {
-    let mut some: Vec<Line> = (0..100).map(|_| records::any_frame(maker, 18)).collect();
+pub fn short_lines(maker: &mut Maker, count: usize) -> Input {
+    let mut some: Vec<Line> = (0..100).map(|_| records::any(maker, 18)).collect();
     some.extend((0..50).map(|_| records::refused(maker)));
     some.retain(|line| line.text.len() < 200);
     some.push(Line::bad("x"));
     let pick = |_| some[maker.random.below(some.len())].clone();
     let lines = (0..count).map(pick).collect();
-    Dump::of(lines, false)
+    Input::of(maker.job, lines, false)
 }

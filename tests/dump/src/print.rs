@@ -47,8 +47,8 @@ fn escaped(byte: u8) -> String {
     }
 }
 
-/// A report, or its beginning and where it first differs from the other.
-fn report(bytes: &[u8], other: &[u8]) -> String {
+/// An output, or its beginning and where it first differs from the other.
+fn output(bytes: &[u8], other: &[u8]) -> String {
     const MOST: usize = 2000;
     if bytes.len() <= MOST {
         return command(bytes);
@@ -62,14 +62,14 @@ fn report(bytes: &[u8], other: &[u8]) -> String {
     format!("{} bytes, from line {} on: {}", size, lines + 1, part)
 }
 
-/// A dump as it can be tried again, and what each side said.
+/// An input as it can be tried again, and what each side said.
 pub fn found(name: &str, found: &Found) -> String {
-    let bytes = found.dump.bytes();
+    let bytes = found.input.bytes();
     let cuts = match found.style.cuts(&bytes) {
         cuts if cuts.is_empty() => String::new(),
         cuts => format!("# reads end at the bytes {:?}\n", cuts),
     };
-    let (said, second) = (report(&found.said, &found.second), report(&found.second, &found.said));
+    let (said, second) = (output(&found.said, &found.second), output(&found.second, &found.said));
     let (why, again) = (&found.why, command(&bytes));
     format!("# smallest difference of {name}: {why}\n{cuts}{again}\n#   program: {said}\n#   second:  {second}")
 }

@@ -1,5 +1,6 @@
-//! Runs the program on a dump.
+//! Runs a program on an input.
 
+use crate::job::Job;
 use crate::style::Style;
 use crate::system;
 use crate::watch::{pause, Watch};
@@ -15,6 +16,7 @@ use std::time::Duration;
 
 #[derive(Clone)]
 pub struct Program {
+    pub job: &'static Job,
     pub path: OsString,
     /// What `ulimit` is called with before it is started.
     pub limits: Vec<&'static str>,
@@ -23,7 +25,7 @@ pub struct Program {
 
 /// What a program wrote, and what is wrong with the way it ended.
 pub struct Outcome {
-    pub report: Vec<u8>,
+    pub said: Vec<u8>,
     pub wrong: Option<String>,
     /// The calls to read, if the system counts them.
     pub reads: Option<usize>,
@@ -70,11 +72,11 @@ impl Program {
         let child = started.expect("the program can be started");
         let child = self.watch.add(child, time_for(input.len()));
         let status = self.watch.end(&child);
-        let mut report = Vec::new();
+        let mut said = Vec::new();
         let begin = output.seek(SeekFrom::Start(0));
-        let read = begin.and_then(|_| output.read_to_end(&mut report));
+        let read = begin.and_then(|_| output.read_to_end(&mut said));
         read.expect("a temporary file can be read");
-        Outcome::new(report, status)
+        Outcome::new(said, status)
     }
 
     pub fn run(&self, input: &[u8], style: Style) -> Outcome {
@@ -87,14 +89,14 @@ impl Program {
 
     fn run_on_file(&self, input: &[u8]) -> Outcome {
         let mut running = self.start(file_of(input), input.len());
-        let report = read_all(&mut running.output);
-        self.outcome(&running, report)
+        let said = read_all(&mut running.output);
+        self.outcome(&running, said)
     }
 
     fn run_on_bytes(&self, input: &[u8]) -> Outcome {
         let (ours, theirs) = system::packets().expect("a socket can be made");
         let mut running = self.start(theirs, input.len());
-        let report = thread::scope(|scope| {
+        let said = thread::scope(|scope| {
             scope.spawn(move || {
                 let mut ours = File::from(ours);
                 // A program that has said `bad header` need not read on.
@@ -102,44 +104,44 @@ impl Program {
             });
             read_all(&mut running.output)
         });
-        self.outcome(&running, report)
+        self.outcome(&running, said)
     }
 
     fn run_on_pipe(&self, input: &[u8], cuts: &[usize]) -> Outcome {
         let mut running = self.start(Stdio::piped(), input.len());
         let pipe = running.input.take().unwrap();
         let ended = AtomicBool::new(false);
-        let report = thread::scope(|scope| {
+        let said = thread::scope(|scope| {
             scope.spawn(|| write_pieces(pipe, input, cuts, &ended));
-            let report = read_all(&mut running.output);
+            let said = read_all(&mut running.output);
             ended.store(true, Ordering::Relaxed);
-            report
+            said
         });
-        self.outcome(&running, report)
+        self.outcome(&running, said)
     }
 
-    /// After all of the report was read. What the system counted is there until the end was
+    /// After all of the output was read. What the system counted is there until the end was
     /// waited for.
-    pub fn outcome(&self, running: &Running, report: Vec<u8>) -> Outcome {
+    pub fn outcome(&self, running: &Running, said: Vec<u8>) -> Outcome {
         let reads = system::reads(running.process);
         let status = self.watch.end(&running.child);
-        Outcome { reads, ..Outcome::new(report, status) }
+        Outcome { reads, ..Outcome::new(said, status) }
     }
 }
 
 impl Outcome {
-    /// What is wrong, where this is the report that it should have written.
+    /// What is wrong, where this is the output that it should have written.
     pub fn fault(&self, expected: &[u8]) -> &str {
         match &self.wrong {
             Some(wrong) => wrong,
-            None if self.report != expected => "the report is another",
+            None if self.said != expected => "the output is another",
             None => "",
         }
     }
 
-    pub fn new(report: Vec<u8>, status: ExitStatus) -> Outcome {
+    pub fn new(said: Vec<u8>, status: ExitStatus) -> Outcome {
         let wrong = wrong_end(status);
-        Outcome { report, wrong, reads: None }
+        Outcome { said, wrong, reads: None }
     }
 }
 
@@ -147,7 +149,7 @@ fn time_for(size: usize) -> Duration {
     Duration::from_secs(20 + size as u64 / 1_000_000)
 }
 
-/// A bad dump is no failure of the program: it has its report too.
+/// A bad input is no failure of the program: it has its output too.
 fn wrong_end(status: ExitStatus) -> Option<String> {
     match (status.code(), status.signal()) {
         (Some(0), _) => None,
@@ -159,10 +161,10 @@ fn wrong_end(status: ExitStatus) -> Option<String> {
 }
 
 pub fn read_all(output: &mut ChildStdout) -> Vec<u8> {
-    let mut report = Vec::new();
-    let read = output.read_to_end(&mut report);
+    let mut said = Vec::new();
+    let read = output.read_to_end(&mut said);
     read.expect("a pipe can be read to its end");
-    report
+    said
 }
 
 /// Writes the input up to each cut, and goes on only when the reader has taken all of it: its

@@ -1,28 +1,25 @@
-//! How long the program and the second program's library take. Nothing fails by it.
+//! How long a program and the second program's library take. Nothing fails by it.
 
 use crate::compare::Sides;
 use crate::records::{self, Maker};
 use crate::style::Style;
-use crate::text::HEADER;
-use second::dump::report_with;
-use shared::damage::wrong_bits;
+use shared::damage;
 use shared::score::{grouped, Score};
 use std::time::Instant;
 
-const FRAMES: usize = 1000;
+const RECORDS: usize = 1000;
 const N: usize = 195;
-const WRONG: usize = 40;
 const TIMES: usize = 3;
 
-fn dump(maker: &mut Maker) -> Vec<u8> {
-    let mut bytes = HEADER.to_vec();
-    for number in 0..FRAMES {
-        let mut frame = records::written(maker, N);
-        wrong_bits(&mut maker.random, N, &mut frame, WRONG);
-        bytes.push(b'\n');
-        bytes.extend(records::text(number, N, 8, &frame));
+fn input(maker: &mut Maker) -> Vec<u8> {
+    let job = maker.job;
+    let mut texts = vec![job.header()];
+    for number in 0..RECORDS {
+        let mut bytes = records::bytes(maker, N);
+        damage::wrong_bits(&mut maker.random, N, &mut bytes, job.wrong_bits);
+        texts.push(records::text(job, number, N, &bytes));
     }
-    bytes
+    texts.join(&b'\n')
 }
 
 /// The least time of a few, in seconds, and what came out.
@@ -35,14 +32,15 @@ fn best<T>(mut call: impl FnMut() -> T) -> (f64, T) {
     (0..TIMES).map(timed).min_by(|a, b| a.0.total_cmp(&b.0)).unwrap()
 }
 
-/// Whether the reports are the same, and the times.
+/// Whether the outputs are the same, and the times.
 pub fn check(sides: &Sides, maker: &mut Maker, score: &mut Score) {
-    let dump = dump(maker);
-    let (program, said) = best(|| sides.program.run(&dump, Style::File));
-    let (second, expected) = best(|| report_with(sides.code, &dump));
-    let name = format!("{} frames at n = {}, {} wrong bits in each", grouped(FRAMES as u64), N, WRONG);
-    score.count(&name, said.fault(&expected), &format!("{} bytes", grouped(dump.len() as u64)));
+    let (job, input) = (maker.job, input(maker));
+    let (program, said) = best(|| sides.program.run(&input, Style::File));
+    let (second, expected) = best(|| (job.of_all)(sides.code, &input));
+    let name = format!("{} records at n = {}, {} wrong bits in each", grouped(RECORDS as u64), N, job.wrong_bits);
+    score.count(&job.check(&name), said.fault(&expected), &format!("{} bytes", grouped(input.len() as u64)));
     let [ours, theirs] = [program, second]
-        .map(|seconds: f64| format!("{:.3} s ({:.0} us a frame)", seconds, seconds * 1e6 / FRAMES as f64));
-    println!("time   best of {}: program {}, second {}, ratio {:.1}", TIMES, ours, theirs, program / second);
+        .map(|seconds: f64| format!("{:.3} s ({:.0} us a record)", seconds, seconds * 1e6 / RECORDS as f64));
+    let ratio = program / second;
+    println!("time   {}, best of {}: program {}, second {}, ratio {:.1}", job.name, TIMES, ours, theirs, ratio);
 }

@@ -18,7 +18,7 @@ pub enum Style {
     Multiples(usize, u64),
 }
 
-/// Pieces of one dump are no more than this, so that a long one does not take for ever.
+/// Pieces of one input are no more than this, so that a long one does not take for ever.
 const MOST_CUTS: usize = 60;
 
 impl Style {

@@ -1,10 +1,12 @@
-//! A dump as lines, each with what the rules say of its line of the report by the way it was
-//! made, whatever the second program says.
+//! An input as lines, each with what the rules say of its line of the output by the way it was made, whatever the second
+//! program says.
 
-use crate::said::{self, Said};
+use crate::job::Job;
+use crate::said::{self, unhex};
+use shared::division::is_frame_of;
 use std::ops::Range;
 
-/// What a line of the dump must give.
+/// What a line of the input must give.
 #[derive(Clone)]
 pub enum Expect {
     /// It is the good first line.
@@ -15,6 +17,8 @@ pub enum Expect {
     Exactly(String),
     /// One of the four endings, and no more passes than were allowed.
     Ended { number: usize, allowance: usize },
+    /// The record of a dump with the frame of these data.
+    Frame { number: usize, n: usize, data: Vec<u8> },
     /// `?` and the number of the line, or a record's line with the number that the line begins with.
     Either,
 }
@@ -26,8 +30,8 @@ pub struct Line {
 }
 
 impl Line {
-    pub fn header() -> Line {
-        Line { text: HEADER.to_vec(), expect: Expect::Header }
+    pub fn header(job: &Job) -> Line {
+        Line { text: job.header(), expect: Expect::Header }
     }
 
     pub fn bad(text: impl Into<Vec<u8>>) -> Line {
@@ -39,9 +43,11 @@ impl Line {
         let said = format!("{} {}", number, words).replace(' ', "\t");
         Line { text, expect: Expect::Exactly(said) }
     }
-}
 
-pub const HEADER: &[u8] = b"frames\t1";
+    pub fn refused(job: &Job, text: Vec<u8>, number: usize, why: usize) -> Line {
+        Line { text, expect: Expect::Exactly((job.refusal)(number, why)) }
+    }
+}
 
 /// The texts of a list, which has bars between them.
 pub fn texts(list: &'static [u8]) -> impl Iterator<Item = &'static [u8]> {
@@ -49,28 +55,29 @@ pub fn texts(list: &'static [u8]) -> impl Iterator<Item = &'static [u8]> {
 }
 
 #[derive(Clone)]
-pub struct Dump {
+pub struct Input {
+    pub job: &'static Job,
     pub lines: Vec<Line>,
     /// The last line has its LF.
     closed: bool,
 }
 
-impl Dump {
+impl Input {
     /// An empty last line is one only with its LF.
-    pub fn new(lines: Vec<Line>, closed: bool) -> Dump {
+    pub fn new(job: &'static Job, lines: Vec<Line>, closed: bool) -> Input {
         let empty = lines.last().map_or(false, |last| last.text.is_empty());
         let closed = closed || empty;
-        Dump { lines, closed }
+        Input { job, lines, closed }
     }
 
     /// The good first line, and `lines`.
-    pub fn of(mut lines: Vec<Line>, closed: bool) -> Dump {
-        lines.insert(0, Line::header());
-        Dump::new(lines, closed)
+    pub fn of(job: &'static Job, mut lines: Vec<Line>, closed: bool) -> Input {
+        lines.insert(0, Line::header(job));
+        Input::new(job, lines, closed)
     }
 
-    /// Any bytes at all. Nothing but the form is known of the report's lines.
-    pub fn raw(bytes: &[u8]) -> Dump {
+    /// Any bytes at all. Nothing but the form is known of the output's lines.
+    pub fn raw(job: &'static Job, bytes: &[u8]) -> Input {
         let line = |text: &[u8]| Line { text: text.to_vec(), expect: Expect::Either };
         let mut lines: Vec<Line> = bytes.split(|&byte| byte == b'\n').map(line).collect();
         let closed = lines.last().map_or(false, |last| last.text.is_empty());
@@ -78,9 +85,9 @@ impl Dump {
             lines.pop();
         }
         if let Some(first) = lines.first_mut() {
-            first.expect = if first.text == HEADER { Expect::Header } else { Expect::Bad };
+            first.expect = if first.text == job.header() { Expect::Header } else { Expect::Bad };
         }
-        Dump { lines, closed }
+        Input { job, lines, closed }
     }
 
     pub fn bytes(&self) -> Vec<u8> {
@@ -94,11 +101,11 @@ impl Dump {
         bytes
     }
 
-    /// The dump without some lines.
-    pub fn without(&self, run: Range<usize>) -> Dump {
+    /// The input without some lines.
+    pub fn without(&self, run: Range<usize>) -> Input {
         let mut lines = self.lines.clone();
         lines.drain(run);
-        Dump::new(lines, self.closed)
+        Input::new(self.job, lines, self.closed)
     }
 
     pub fn good_header(&self) -> bool {
@@ -106,44 +113,51 @@ impl Dump {
         first.map_or(false, |line| matches!(line.expect, Expect::Header))
     }
 
-    /// What in `report` is not as the rules say, or nothing.
-    pub fn broken(&self, report: &[u8]) -> Option<String> {
+    /// What in `output` is not as the rules say, or nothing.
+    pub fn broken(&self, output: &[u8]) -> Option<String> {
         if !self.good_header() {
-            let kept = report == b"bad header\n";
-            return (!kept).then(|| "the first line is bad, the report is another".to_string());
+            let kept = output == b"bad header\n";
+            return (!kept).then(|| "the first line is bad, the output is another".to_string());
         }
-        let lines = match said::lines(report) {
+        let lines = match said::lines(output) {
             Some(lines) => lines,
-            None => return Some("the report's last line has no LF".to_string()),
+            None => return Some("the output's last line has no LF".to_string()),
         };
         if lines.len() != self.lines.len() {
             let (is, should) = (lines.len(), self.lines.len());
-            return Some(format!("the report has {} lines, the dump has {}", is, should));
+            return Some(format!("the output has {} lines, the input has {}", is, should));
         }
         for (index, (line, said)) in self.lines.iter().zip(lines).enumerate() {
-            if !kept(line, index + 1, said) {
-                return Some(format!("the report's line {} can't be right", index + 1));
+            if !kept(self.job, line, index + 1, said) {
+                return Some(format!("the output's line {} can't be right", index + 1));
             }
         }
         None
     }
 }
 
-fn kept(line: &Line, line_number: usize, said: &[u8]) -> bool {
+fn kept(job: &Job, line: &Line, line_number: usize, said: &[u8]) -> bool {
     let bad = || said == format!("?\t{}", line_number).as_bytes();
-    let record = Said::parse(said);
-    match (&line.expect, record) {
-        (Expect::Header, _) => said == b"repair\t1",
+    match (&line.expect, (job.parse)(said)) {
+        (Expect::Header, _) => said == job.answer.as_bytes(),
         (Expect::Bad, _) => bad(),
         (Expect::Exactly(text), _) => said == text.as_bytes(),
         (Expect::Ended { number, allowance }, Some(record)) => {
-            record.number == *number && record.ended() && record.counts[0] <= *allowance
+            record.number == *number && record.taken && record.counts[0] <= *allowance
         }
-        (Expect::Either, Some(_)) => {
-            let first = |text: &[u8]| text.iter().position(|&byte| byte == b'\t');
-            first(&line.text).map(|end| &line.text[..end]) == first(said).map(|end| &said[..end])
+        (Expect::Frame { number, n, data }, _) => has_frame(said, *number, *n, data),
+        (Expect::Either, Some(record)) => {
+            let number = line.text.split(|&byte| byte == b'\t').next();
+            number == Some(record.number.to_string().as_bytes())
         }
         (Expect::Either, None) => bad(),
         (_, None) => false,
     }
+}
+
+/// A line of a dump that is the number, n, the allowance of all that is written, and the frame of these data.
+fn has_frame(said: &[u8], number: usize, n: usize, data: &[u8]) -> bool {
+    let front = format!("{}\t{}\t8\t", number, n);
+    let hex = said.strip_prefix(front.as_bytes()).and_then(|hex| std::str::from_utf8(hex).ok());
+    hex.and_then(unhex).map_or(false, |frame| is_frame_of(n, data, &frame))
 }

@@ -161,6 +161,10 @@ data-records = record {
 
 -- ---- the longest
 
+-- too long to be read
+pub data-long : (s : Text) → longestData < length s → dataOf s ≡ badData
+data-long s h = data-says s ∙ says-not longestData said badData 2 s h
+
 nines-length : (message : List ℕ) → length (dataLine 999999999 999999999 message) ≡ 20 + 2 * length message
 nines-length message = ap length (data-written 999999999 999999999 message) ∙ written-nines 2 message
 
@@ -170,7 +174,6 @@ longest-data = record {
       omega (arith, ap length (data-written number n message), written-most (number ∷ n ∷ []) message (a, (b, tt)), f);
   greatest = λ message f. omega (arith, nines-length message, f);
   too-long = λ message f.
-      let s : Text = dataLine 999999999 999999999 message in
-      data-says s ∙ says-not longestData said badData 2 s (omega (arith, nines-length message, f));
+      data-long (dataLine 999999999 999999999 message) (omega (arith, nines-length message, f));
   characters = refl;
 }

@@ -1,7 +1,9 @@
 -- `dump::line::put_reported` meets its contract.
 -- Assumes nothing.
 use borrow.Author.Needs.{needs}
-use Rattle.dump.proofs.LineLaws.{head-questioned, frame-questioned, record-reported, digits-short, hex-known}
+use Rattle.dump.proofs.LineLaws.{head-questioned, frame-questioned, record-reported}
+use Rattle.textrules.specs.Dump.{longestLine}
+use Rattle.text.proofs.LastFieldLaws.{digits-short, hex-known}
 use Rattle.dump.proofs.line.put_reported.Statement.{statement}
 use Rattle.dump.proofs.line.put_reported.Tie as tie
 
@@ -39,7 +41,7 @@ returns-2 : tie.Need-returns-2
 returns-2 c = let a = c .before .before .before .before .before .before .before .before .before .before .before .before .args in frame-questioned (a .line .now) (c .before .before .before .before .before .before .before .before .before .record-head .result) (c .before .before .before .before .before .before .before .before .before .record-head .ensures .0) (a .number) _ _ _ _ (c .before .before .before .before .before .before .before .if1 .left) (c .before .before .before .before .before .is-hex .result) (c .before .before .before .before .before .is-hex .ensures) (c .before .before .before .before .if2 .taken) (c .before .before .put-questioned2 .ensures)
 
 decode-digits-requires : tie.Need-decode-digits-requires
-decode-digits-requires c κs = (hex-known _ _ (c .before .is-hex .ensures) (c .if2 .left), digits-short (c .before .before .before .before .before .before .before .before .args .line .now) (c .before .before .before .before .before .record-head .result .frame) (c .before .before .before .before .before .before .before .before .pre .1))
+decode-digits-requires c κs = (hex-known _ _ (c .before .is-hex .ensures) (c .if2 .left), digits-short (c .before .before .before .before .before .before .before .before .args .line .now) (c .before .before .before .before .before .record-head .result .frame) longestLine (c .before .before .before .before .before .before .before .before .pre .1))
 
 put-decoded-requires : tie.Need-put-decoded-requires
 put-decoded-requires c κs = search needs

@@ -1,0 +1,2 @@
+-- What the contracts of the factory's functions cite.
+pub mod Room

@@ -1,0 +1,22 @@
+// The dump, in step with the lines of the factory's data.
+use crate::line::put_line;
+use crate::sizes::LONGEST_LINE;
+use crate::sizes::ROOM;
+use lines::say::put_header;
+use lines::say::put_questioned;
+use lines::state::Event;
+use lines::state::part;
+ghost use Rattle.textrules.specs.Factory.{writer};
+ghost use Rattle.lines.specs.Calls.{Says};
+
+// What the dump says of what has happened; the text stands at the start of `out`.
+pub fn say(event: Event, line: &[u8; LONGEST_LINE], out: &mut [u8; ROOM]) -> usize
+    ensures { λ r. ⌜ Says writer event (now (line .entry)) (now (out .entry)) r (now (out .exit)) ⌝ }
+{
+    match event {
+        Event::Nothing => 0,
+        Event::Header(good) => put_header(out, 0, good, b"frames\t1\n"),
+        Event::Line(number, long) => put_line(out, number, part(line, long)),
+        Event::Long(number) => put_questioned(out, 0, number),
+    }
+}
