@@ -6,11 +6,15 @@ use lines::say::put_header;
 use lines::say::put_questioned;
 use lines::state::Event;
 use lines::state::part;
-ghost use Rattle.textrules.specs.Factory.{writer};
+ghost use mathlib.Core.Path.{_≡_};
+ghost use Prim.Native.Nat.{_≤_};
+ghost use lib.ListN.{length};
+ghost use Rattle.textrules.specs.Factory.{longestData, writer};
 ghost use Rattle.lines.specs.Calls.{Says};
+ghost use Rattle.factory.specs.Room.{dumpRoom};
 
-// What the dump says of what has happened; the text stands at the start of `out`.
-pub fn say(event: Event, line: &[u8; LONGEST_LINE], out: &mut [u8; ROOM]) -> usize
+fn put_event(event: Event, line: &[u8], out: &mut [u8]) -> usize
+    requires { ⌜ (length (now line) ≡ longestData) × (dumpRoom ≤ length (now out)) ⌝ }
     ensures { λ r. ⌜ Says writer event (now (line .entry)) (now (out .entry)) r (now (out .exit)) ⌝ }
 {
     match event {
@@ -19,4 +23,11 @@ pub fn say(event: Event, line: &[u8; LONGEST_LINE], out: &mut [u8; ROOM]) -> usi
         Event::Line(number, long) => put_line(out, number, part(line, long)),
         Event::Long(number) => put_questioned(out, 0, number),
     }
+}
+
+// What the dump says of what has happened; the text stands at the start of `out`.
+pub fn say(event: Event, line: &[u8; LONGEST_LINE], out: &mut [u8; ROOM]) -> usize
+    ensures { λ r. ⌜ Says writer event (now (line .entry)) (now (out .entry)) r (now (out .exit)) ⌝ }
+{
+    put_event(event, line, out)
 }

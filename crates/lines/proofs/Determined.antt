@@ -29,5 +29,5 @@ determined = record {
         three (ap (λ (j : Kept). j .state) k) (t .1 ∙ sym (t′ .1)) (t .2 ∙ sym (t′ .2)),
         ap (λ (j : Kept). j .line) k,
       );
-  text = λ p e line out n n′ exit exit′ l l′. (l .0 ∙ sym (l′ .0), l .2 ∙ sym (l′ .2));
+  text = λ p e line out n n′ exit exit′ l l′. (l .1 .0 ∙ sym (l′ .1 .0), l .1 .2 ∙ sym (l′ .1 .2));
 }

@@ -95,7 +95,7 @@ calls-bytes p (c ∷ later) s line end left (t, l, rest) =
     let b = calls-bytes p later (c .taken .state) (c .line) end left rest in
     let q = piece-left p s (c .piece) line (c .taken) (c .line) t in
     let e =
-    handed-text (c .lent) (eventText p (c .taken .event) (c .line)) (c .written) (c .exit) l
+    handed-text (c .lent) (eventText p (c .taken .event) (c .line)) (c .written) (c .exit) (l .1)
     ∙ piece-text p s (c .piece) line (c .taken) (c .line) t in
     record {
       text =
@@ -112,7 +112,7 @@ pieces p ok = record {
   whole = λ line f calls end left c last q out n exit e h.
       let b = calls-bytes p calls atStart line end left c in
       ap₂ (λ (u v : Text). u ++ v) (b .text)
-      (handed-text out (eventText p last left) n exit e
+      (handed-text out (eventText p last left) n exit (e .1)
       ∙ ap (λ (v : Event). eventText p v left) q
       ∙ ap (λ (k : Kept). eventText p (eventAtEnd (p .header) (k .state) (k .line)) (k .line)) (b .last))
       ∙ sym (run-handed p (inputOf calls) (keeping atStart line))

@@ -43,9 +43,9 @@ lays-as out at r exit t u e = subst (λ (x : Text). Lays out at x r exit) e
 
 -- what a program says of an event, known by its case
 pub says-as :
-    (p : Program) (e d : Event) → e ≡ d → (line out : List ℕ) (r : ℕ) (exit : List ℕ) → Lays out 0 (eventText p d line) r exit
-    → Says p e line out r exit
-says-as p e d q line out r exit = subst (λ (v : Event). Lays out 0 (eventText p v line) r exit) (sym q)
+    (p : Program) (e d : Event) → e ≡ d → (line out : List ℕ) (r : ℕ) (exit : List ℕ) → length line ≡ p .longest
+    → Lays out 0 (eventText p d line) r exit → Says p e line out r exit
+says-as p e d q line out r exit h l = (h, subst (λ (v : Event). Lays out 0 (eventText p v line) r exit) (sym q) l)
 
 -- a text that is laid stands within the lent buffer
 pub lays-within : (out : List ℕ) (at : ℕ) (t : Text) (r : ℕ) (exit : List ℕ) → Lays out at t r exit → r ≤ length exit

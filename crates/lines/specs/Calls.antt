@@ -3,6 +3,7 @@
 use mathlib.Core.Path.{_≡_}
 use mathlib.Core.List.{List}
 use Prim.Native.Nat.{ℕ}
+use lib.ListN.{length}
 use Rattle.textrules.specs.Text.{Text}
 use Rattle.textrules.specs.Programs.{Program}
 use Rattle.lines.specs.declared.state.State.{State}
@@ -18,9 +19,9 @@ Takes header s piece line r line-exit =
     let e : Stop = stopped header (keeping s line) piece in
     (keeping (r .state) line-exit ≡ e .kept) × (r .event ≡ e .event) × (r .taken ≡ e .taken)
 
--- what a program says of it, at the start of the lent buffer
+-- what a program says of it, at the start of the lent buffer; its line buffer has room for its longest line, and no more
 abbrev pub Says : Program → Event → List ℕ → List ℕ → ℕ → List ℕ → Type 0
-Says p event line out r out-exit = Lays out 0 (eventText p event line) r out-exit
+Says p event line out r out-exit = (length line ≡ p .longest) × Lays out 0 (eventText p event line) r out-exit
 
 -- the bytes of m, from a state and a line buffer, leave these
 abbrev pub Leaves : Text → State → List ℕ → Text → State → List ℕ → Type 0

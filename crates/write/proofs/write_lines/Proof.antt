@@ -43,7 +43,7 @@ part-write-all-start : tie.Need-part-write-all-start Inv-loop μ-loop
 part-write-all-start c = search needs
 
 part-write-all-end : tie.Need-part-write-all-end Inv-loop μ-loop
-part-write-all-end c = lays-within _ _ _ _ _ (c .before .say .ensures)
+part-write-all-end c = lays-within _ _ _ _ _ (c .before .say .ensures .1)
 
 write-all-requires : tie.Need-write-all-requires Inv-loop μ-loop
 write-all-requires c κs = search needs
