@@ -1,4 +1,5 @@
 -- The report's lines
+
 pub mod ReportTextLaws
 pub mod LineLaws
 -- The report, whatever the pieces

@@ -1,2 +1,3 @@
 -- What a step leaves
+
 pub mod StepLaws

@@ -7,8 +7,8 @@ use mathlib.Core.List.{List, [], _∷_, _++_, append-assoc, append-nil}
 use Prim.Native.Nat.{ℕ, suc, _+_, _-_, _≤_, _<_}
 use native.Mathlib.Decide.{ℕ-discrete}
 use native.Mathlib.Omega.{arith}
-use lib.ListN.{length, take, drop, length-drop}
-use lib.Seq.{take-add, take-all, take-length}
+use lib.ListN.{length, take}
+use lib.Seq.{take-length}
 use Rattle.textrules.specs.Text.{Text, lf}
 use Rattle.textrules.specs.Programs.{Program}
 use Rattle.lines.specs.declared.state.State.{State}

@@ -1,4 +1,5 @@
 -- The state, as the code goes
+
 pub mod StateLaws
 pub mod StopLaws
 -- What a program hands out, whatever the pieces

@@ -7,7 +7,7 @@ use mathlib.Core.List.{List, [], _∷_, _++_, append-assoc, append-nil, cons-ne-
 use Prim.Native.Nat.{ℕ, suc, _+_, _^_, _≤_, _<_}
 use native.Mathlib.Decide.{decLt, ℕ-discrete}
 use native.Mathlib.Omega.{arith}
-use lib.Dec.{eqb, leb}
+use lib.Dec.{eqb}
 use lib.ListN.{length, take, set, length-append, length-set}
 use lib.Seq.{take-suc-set}
 use borrow.Author.Tests.{eq-eqb, ne-eqb, lt-ltb, le-leb, lt-leb}
@@ -19,7 +19,6 @@ use Rattle.textrules.proofs.Promises.Lines.{NoLF, lines-cut, lines-open}
 use Rattle.textrules.proofs.Promises.Outputs.{same-is}
 use Rattle.lines.specs.declared.state.State.{State}
 use Rattle.lines.specs.declared.state.Event.{Event}
-use Rattle.lines.specs.declared.state.Event.the-variants.{Header, Line, Long}
 use Rattle.lines.specs.Stream.{atStart, mostLines, isHeader, closed, nextLine, longer, eventAtEnd, Kept, keeping, keptAfter}
 use Rattle.lines.specs.Say.{eventText}
 use Rattle.lines.proofs.StateLaws.{header-over, closed-first, closed-over, closed-kept, after-rejected, after-lf, after-other, end-rejected, end-none, end-line, between-not}

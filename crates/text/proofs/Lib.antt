@@ -1,4 +1,5 @@
 -- Texts laid into a buffer
+
 pub mod LaidLaws
 pub mod DecimalLaws
 pub mod HexLaws

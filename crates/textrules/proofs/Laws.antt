@@ -1,4 +1,5 @@
 -- Fields and decimals
+
 pub mod TextLaws
 -- Decimals, hex, and a line of both, as they are written and as they are tested
 pub mod DigitFormLaws

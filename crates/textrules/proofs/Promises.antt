@@ -1,4 +1,5 @@
 -- The dump and its report, and the factory's data
+
 pub mod Records
 pub mod DataRecords
 pub mod LongestLine

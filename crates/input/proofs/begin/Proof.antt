@@ -1,11 +1,9 @@
-use Rattle.lines.specs.declared.state.State.{State}
-use mathlib.Core.Path.{_≡_, refl, sym, ap, _∙_}
-use mathlib.Core.Logic.{⊎-elim}
-use Prim.Native.Nat.{ℕ, zero, suc, _+_, _*_, _-_, _/_, _%_, _^_, _≤_, _<_}
-use native.Mathlib.Omega.{arith}
-use native.Mathlib.Numerals.{add-one}
-use lib.ListN.{length, getD}
+-- `input::begin` meets its contract.
+-- Assumes nothing.
+use mathlib.Core.Path.{ap}
+use Prim.Native.Nat.{_-_}
 use borrow.Author.Needs.{needs}
+use Rattle.lines.specs.declared.state.State.{State}
 use Rattle.input.proofs.begin.Statement.{statement}
 use Rattle.input.proofs.begin.Tie as tie
 

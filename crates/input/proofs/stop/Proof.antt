@@ -1,11 +1,8 @@
-use Rattle.input.proofs.StepLaws.{step-end, step-failed}
-use mathlib.Core.Path.{_≡_, refl, sym, ap, _∙_}
-use mathlib.Core.Logic.{⊎-elim}
-use Prim.Native.Nat.{ℕ, zero, suc, _+_, _*_, _-_, _/_, _%_, _^_, _≤_, _<_}
-use native.Mathlib.Omega.{arith}
-use native.Mathlib.Numerals.{add-one}
-use lib.ListN.{length, getD}
+-- `input::stop` meets its contract.
+-- Assumes nothing.
+use Prim.Native.Nat.{_-_}
 use borrow.Author.Needs.{needs}
+use Rattle.input.proofs.StepLaws.{step-end, step-failed}
 use Rattle.input.proofs.stop.Statement.{statement}
 use Rattle.input.proofs.stop.Tie as tie
 

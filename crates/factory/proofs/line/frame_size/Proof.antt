@@ -1,11 +1,9 @@
-use Rattle.factory.proofs.LineLaws.{n-most, size-outside, size-inside}
-use mathlib.Core.Path.{_≡_, refl, sym, ap, _∙_}
-use mathlib.Core.Logic.{⊎-elim}
-use Prim.Native.Nat.{ℕ, zero, suc, _+_, _*_, _-_, _/_, _%_, _^_, _≤_, _<_}
+-- `factory::line::frame_size` meets its contract.
+-- Assumes nothing.
+use Prim.Native.Nat.{_-_}
 use native.Mathlib.Omega.{arith}
-use native.Mathlib.Numerals.{add-one}
-use lib.ListN.{length, getD}
 use borrow.Author.Needs.{needs}
+use Rattle.factory.proofs.LineLaws.{n-most, size-outside, size-inside}
 use Rattle.factory.proofs.line.frame_size.Statement.{statement}
 use Rattle.factory.proofs.line.frame_size.Tie as tie
 

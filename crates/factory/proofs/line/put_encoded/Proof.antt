@@ -1,11 +1,8 @@
-use Rattle.factory.proofs.LineLaws.{refused-written, frame-fits, frame-written}
-use mathlib.Core.Path.{_≡_, refl, sym, ap, _∙_}
-use mathlib.Core.Logic.{⊎-elim}
-use Prim.Native.Nat.{ℕ, zero, suc, _+_, _*_, _-_, _/_, _%_, _^_, _≤_, _<_}
-use native.Mathlib.Omega.{arith}
-use native.Mathlib.Numerals.{add-one}
-use lib.ListN.{length, getD}
+-- `factory::line::put_encoded` meets its contract.
+-- Assumes nothing.
+use Prim.Native.Nat.{_-_}
 use borrow.Author.Needs.{needs}
+use Rattle.factory.proofs.LineLaws.{refused-written, frame-fits, frame-written}
 use Rattle.factory.proofs.line.put_encoded.Statement.{statement}
 use Rattle.factory.proofs.line.put_encoded.Tie as tie
 

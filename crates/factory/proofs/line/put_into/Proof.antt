@@ -1,14 +1,11 @@
+-- `factory::line::put_into` meets its contract.
+-- Assumes nothing.
+use mathlib.Core.Path.{ap}
+use Prim.Native.Nat.{_-_}
+use borrow.Author.Needs.{needs}
 use Rattle.factory.specs.Room.{recordText}
 use Rattle.lines.proofs.StateLaws.{lays-as}
 use Rattle.text.proofs.ReadLaws.{hex-part}
-use Rattle.textrules.specs.Text.{Text}
-use mathlib.Core.Path.{_≡_, refl, sym, ap, _∙_}
-use mathlib.Core.Logic.{⊎-elim}
-use Prim.Native.Nat.{ℕ, zero, suc, _+_, _*_, _-_, _/_, _%_, _^_, _≤_, _<_}
-use native.Mathlib.Omega.{arith}
-use native.Mathlib.Numerals.{add-one}
-use lib.ListN.{length, getD}
-use borrow.Author.Needs.{needs}
 use Rattle.factory.proofs.line.put_into.Statement.{statement}
 use Rattle.factory.proofs.line.put_into.Tie as tie
 

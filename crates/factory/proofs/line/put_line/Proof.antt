@@ -1,13 +1,10 @@
+-- `factory::line::put_line` meets its contract.
+-- Assumes nothing.
+use Prim.Native.Nat.{_-_}
+use borrow.Author.Needs.{needs}
 use Rattle.factory.proofs.LineLaws.{opening-questioned, digits-questioned, number-short, record-written}
 use Rattle.text.proofs.LastFieldLaws.{digits-short, hex-known}
 use Rattle.textrules.specs.Factory.{longestData}
-use mathlib.Core.Path.{_≡_, refl, sym, ap, _∙_}
-use mathlib.Core.Logic.{⊎-elim}
-use Prim.Native.Nat.{ℕ, zero, suc, _+_, _*_, _-_, _/_, _%_, _^_, _≤_, _<_}
-use native.Mathlib.Omega.{arith}
-use native.Mathlib.Numerals.{add-one}
-use lib.ListN.{length, getD}
-use borrow.Author.Needs.{needs}
 use Rattle.factory.proofs.line.put_line.Statement.{statement}
 use Rattle.factory.proofs.line.put_line.Tie as tie
 

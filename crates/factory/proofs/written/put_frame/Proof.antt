@@ -1,13 +1,11 @@
+-- `factory::written::put_frame` meets its contract.
+-- Assumes nothing.
+use Prim.Native.Nat.{_-_}
+use native.Mathlib.Omega.{arith}
+use borrow.Author.Needs.{needs}
 use Rattle.factory.proofs.LineLaws.{nine-most, three-most, allowance-one}
 use Rattle.text.proofs.HexLaws.{hex-text-length}
 use Rattle.text.proofs.LaidLaws.{lays-then}
-use mathlib.Core.Path.{_≡_, refl, sym, ap, _∙_}
-use mathlib.Core.Logic.{⊎-elim}
-use Prim.Native.Nat.{ℕ, zero, suc, _+_, _*_, _-_, _/_, _%_, _^_, _≤_, _<_}
-use native.Mathlib.Omega.{arith}
-use native.Mathlib.Numerals.{add-one}
-use lib.ListN.{length, getD}
-use borrow.Author.Needs.{needs}
 use Rattle.factory.proofs.written.put_frame.Statement.{statement}
 use Rattle.factory.proofs.written.put_frame.Tie as tie
 

@@ -1,11 +1,9 @@
-use Rattle.text.proofs.LaidLaws.{lays-then, digits-few}
-use mathlib.Core.Path.{_≡_, refl, sym, ap, _∙_}
-use mathlib.Core.Logic.{⊎-elim}
-use Prim.Native.Nat.{ℕ, zero, suc, _+_, _*_, _-_, _/_, _%_, _^_, _≤_, _<_}
+-- `factory::written::put_refused` meets its contract.
+-- Assumes nothing.
+use Prim.Native.Nat.{_-_}
 use native.Mathlib.Omega.{arith}
-use native.Mathlib.Numerals.{add-one}
-use lib.ListN.{length, getD}
 use borrow.Author.Needs.{needs}
+use Rattle.text.proofs.LaidLaws.{lays-then, digits-few}
 use Rattle.factory.proofs.written.put_refused.Statement.{statement}
 use Rattle.factory.proofs.written.put_refused.Tie as tie
 

@@ -1,12 +1,9 @@
+-- `lines::say::put_header` meets its contract.
+-- Assumes nothing.
+use Prim.Native.Nat.{_-_}
+use borrow.Author.Needs.{needs}
 use Rattle.lines.proofs.StateLaws.{lays-as, picked}
 use Rattle.textrules.specs.Programs.{badHeader}
-use mathlib.Core.Path.{_≡_, refl, sym, ap, _∙_}
-use mathlib.Core.Logic.{⊎-elim}
-use Prim.Native.Nat.{ℕ, zero, suc, _+_, _*_, _-_, _/_, _%_, _^_, _≤_, _<_}
-use native.Mathlib.Omega.{arith}
-use native.Mathlib.Numerals.{add-one}
-use lib.ListN.{length, getD}
-use borrow.Author.Needs.{needs}
 use Rattle.lines.proofs.say.put_header.Statement.{statement}
 use Rattle.lines.proofs.say.put_header.Tie as tie
 

@@ -1,11 +1,9 @@
-use Rattle.lines.proofs.StateLaws.{end-rejected, end-none, end-line}
-use mathlib.Core.Path.{_≡_, refl, sym, ap, _∙_}
-use mathlib.Core.Logic.{⊎-elim}
-use Prim.Native.Nat.{ℕ, zero, suc, _+_, _*_, _-_, _/_, _%_, _^_, _≤_, _<_}
-use native.Mathlib.Omega.{arith}
-use native.Mathlib.Numerals.{add-one}
-use lib.ListN.{length, getD}
+-- `lines::state::finish` meets its contract.
+-- Assumes nothing.
+use mathlib.Core.Path.{sym, _∙_}
+use Prim.Native.Nat.{_-_}
 use borrow.Author.Needs.{needs}
+use Rattle.lines.proofs.StateLaws.{end-rejected, end-none, end-line}
 use Rattle.lines.proofs.state.finish.Statement.{statement}
 use Rattle.lines.proofs.state.finish.Tie as tie
 

@@ -1,11 +1,7 @@
+-- `lines::state::is_between` meets its contract.
+-- Assumes nothing.
+use Prim.Native.Nat.{_-_}
 use Rattle.lines.proofs.StateLaws.{between-not, between-so}
-use mathlib.Core.Path.{_≡_, refl, sym, ap, _∙_}
-use mathlib.Core.Logic.{⊎-elim}
-use Prim.Native.Nat.{ℕ, zero, suc, _+_, _*_, _-_, _/_, _%_, _^_, _≤_, _<_}
-use native.Mathlib.Omega.{arith}
-use native.Mathlib.Numerals.{add-one}
-use lib.ListN.{length, getD}
-use borrow.Author.Needs.{needs}
 use Rattle.lines.proofs.state.is_between.Statement.{statement}
 use Rattle.lines.proofs.state.is_between.Tie as tie
 

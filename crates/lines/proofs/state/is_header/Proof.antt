@@ -1,11 +1,8 @@
-use Rattle.lines.proofs.StateLaws.{header-over, header-kept}
-use mathlib.Core.Path.{_≡_, refl, sym, ap, _∙_}
-use mathlib.Core.Logic.{⊎-elim}
-use Prim.Native.Nat.{ℕ, zero, suc, _+_, _*_, _-_, _/_, _%_, _^_, _≤_, _<_}
-use native.Mathlib.Omega.{arith}
-use native.Mathlib.Numerals.{add-one}
-use lib.ListN.{length, getD}
+-- `lines::state::is_header` meets its contract.
+-- Assumes nothing.
+use Prim.Native.Nat.{_-_}
 use borrow.Author.Needs.{needs}
+use Rattle.lines.proofs.StateLaws.{header-over, header-kept}
 use Rattle.lines.proofs.state.is_header.Statement.{statement}
 use Rattle.lines.proofs.state.is_header.Tie as tie
 

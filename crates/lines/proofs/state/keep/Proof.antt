@@ -1,11 +1,8 @@
-use Rattle.lines.proofs.StateLaws.{keep-out}
-use mathlib.Core.Path.{_≡_, refl, sym, ap, _∙_}
-use mathlib.Core.Logic.{⊎-elim}
-use Prim.Native.Nat.{ℕ, zero, suc, _+_, _*_, _-_, _/_, _%_, _^_, _≤_, _<_}
-use native.Mathlib.Omega.{arith}
-use native.Mathlib.Numerals.{add-one}
-use lib.ListN.{length, getD}
+-- `lines::state::keep` meets its contract.
+-- Assumes nothing.
+use Prim.Native.Nat.{_-_}
 use borrow.Author.Needs.{needs}
+use Rattle.lines.proofs.StateLaws.{keep-out}
 use Rattle.lines.proofs.state.keep.Statement.{statement}
 use Rattle.lines.proofs.state.keep.Tie as tie
 

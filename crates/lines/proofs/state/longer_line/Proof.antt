@@ -1,11 +1,8 @@
-use Rattle.lines.proofs.StateLaws.{longer-more, longer-same}
-use mathlib.Core.Path.{_≡_, refl, sym, ap, _∙_}
-use mathlib.Core.Logic.{⊎-elim}
-use Prim.Native.Nat.{ℕ, zero, suc, _+_, _*_, _-_, _/_, _%_, _^_, _≤_, _<_}
-use native.Mathlib.Omega.{arith}
-use native.Mathlib.Numerals.{add-one}
-use lib.ListN.{length, getD}
+-- `lines::state::longer_line` meets its contract.
+-- Assumes nothing.
+use Prim.Native.Nat.{_-_}
 use borrow.Author.Needs.{needs}
+use Rattle.lines.proofs.StateLaws.{longer-more, longer-same}
 use Rattle.lines.proofs.state.longer_line.Statement.{statement}
 use Rattle.lines.proofs.state.longer_line.Tie as tie
 

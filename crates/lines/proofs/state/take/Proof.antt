@@ -1,11 +1,11 @@
-use Rattle.lines.proofs.StopLaws.{Taking, taking-rejected, taking-none, taking-all, taking-lf, taking-next}
-use mathlib.Core.Path.{_≡_, refl, sym, ap, _∙_}
-use mathlib.Core.Logic.{⊎-elim}
-use Prim.Native.Nat.{ℕ, zero, suc, _+_, _*_, _-_, _/_, _%_, _^_, _≤_, _<_}
+-- `lines::state::take` meets its contract.
+-- Assumes nothing.
+use mathlib.Core.Path.{_≡_, refl}
+use Prim.Native.Nat.{_-_, _≤_}
 use native.Mathlib.Omega.{arith}
-use native.Mathlib.Numerals.{add-one}
-use lib.ListN.{length, getD}
+use lib.ListN.{length}
 use borrow.Author.Needs.{needs}
+use Rattle.lines.proofs.StopLaws.{Taking, taking-rejected, taking-none, taking-all, taking-lf, taking-next}
 use Rattle.lines.proofs.state.take.Statement.{statement}
 use Rattle.lines.proofs.state.take.Tie as tie
 
