@@ -8,7 +8,7 @@ use lines::state::take;
 ghost use mathlib.Core.Path.{_≡_};
 ghost use Prim.Native.Nat.{_≤_};
 ghost use lib.ListN.{length};
-ghost use Rattle.input.specs.Calls.{atBegin, Steps};
+ghost use Rattle.input.specs.Calls.{atBegin, hasMore, TakesLine, Stops, Steps};
 
 // The bytes of a read.
 pub const PIECE: usize = 8192;
@@ -40,10 +40,20 @@ pub fn begin() -> Input
     }
 }
 
+// Whether something is left of the piece that was read last.
+fn has_more(input: Input) -> bool
+    ensures { λ r. ⌜ r ≡ hasMore input ⌝ }
+{
+    if input.from >= input.to {
+        return false;
+    }
+    input.to <= PIECE
+}
+
 // Takes one line more of the piece, or the rest of it where that has no LF.
 fn take_line(input: Input, piece: &[u8], header: &[u8], line: &mut [u8]) -> Step
     requires { ⌜ (input .from ≤ input .to) × (input .to ≤ length (now piece)) ⌝ }
-    ensures { λ r. ⌜ Steps (now (header .entry)) (input .state) (now (line .entry)) r (now (line .exit)) ⌝ }
+    ensures { λ r. ⌜ TakesLine (now (header .entry)) input (now (piece .entry)) (now (line .entry)) r (now (line .exit)) ⌝ }
 {
     let state = input.state;
     let from = input.from;
@@ -63,12 +73,12 @@ fn take_line(input: Input, piece: &[u8], header: &[u8], line: &mut [u8]) -> Step
     }
 }
 
-// Nothing is left to take: after a read that fails nobody knows how the line that was being read goes on, so the input has not
+// Nothing more has come. After a read that fails nobody knows how the line that was being read goes on, so the input has not
 // ended.
-fn stop(state: State, header: &[u8], line: &[u8], at_end: bool) -> Step
-    ensures { λ r. ⌜ Steps (now (header .entry)) state (now (line .entry)) r (now (line .entry)) ⌝ }
+fn stop(state: State, header: &[u8], line: &[u8], ended: bool) -> Step
+    ensures { λ r. ⌜ Stops (now (header .entry)) state ended (now (line .entry)) r (now (line .entry)) ⌝ }
 {
-    let event = if at_end {
+    let event = if ended {
         finish(state, header, line)
     } else {
         Event::Nothing
@@ -81,18 +91,16 @@ fn stop(state: State, header: &[u8], line: &[u8], at_end: bool) -> Step
         },
         event,
         more: false,
-        at_end,
+        at_end: ended,
     }
 }
 
 // One line more, after a read where all that was read is taken.
 pub fn advance(input: Input, piece: &mut [u8; PIECE], header: &[u8], line: &mut [u8]) -> Step
-    ensures { λ r. ⌜ Steps (now (header .entry)) (input .state) (now (line .entry)) r (now (line .exit)) ⌝ }
+    ensures { λ r. ⌜ Steps (now (header .entry)) input (now (piece .entry)) (now (line .entry)) r (now (piece .exit)) (now (line .exit)) ⌝ }
 {
-    if input.from < input.to {
-        if input.to <= PIECE {
-            return take_line(input, piece, header, line);
-        }
+    if has_more(input) {
+        return take_line(input, piece, header, line);
     }
     let state = input.state;
     let got = libc::read(STDIN_FILENO, piece);

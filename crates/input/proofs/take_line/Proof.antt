@@ -3,8 +3,8 @@
 use Prim.Native.Nat.{_-_}
 use native.Mathlib.Omega.{arith}
 use borrow.Author.Needs.{needs}
-use Rattle.input.proofs.StepLaws.{rest-length, step-taken}
 use Rattle.lines.proofs.HandedLaws.{piece-within}
+use Rattle.input.proofs.StepLaws.{rest-length, line-taken}
 use Rattle.input.proofs.take_line.Statement.{statement}
 use Rattle.input.proofs.take_line.Tie as tie
 
@@ -27,7 +27,7 @@ same-length : tie.Need-same-length
 same-length c = search needs
 
 returns : tie.Need-returns
-returns c = step-taken (c .before .before .before .before .before .before .before .before .before .before .before .args .header .now) (c .before .before .before .before .before .before .before .before .before .before .before .args .input .state) (c .before .before .before .before .before .before .before .before .before .before .before .args .line .now) _ (c .before .before .before .before .take .result) _ 0 0 (c .before .before .before .before .take .ensures)
+returns c = line-taken (c .before .before .before .before .before .before .before .before .before .before .before .args .header .now) (c .before .before .before .before .before .before .before .before .before .before .before .args .input) (c .before .before .before .before .before .before .before .before .before .before .before .args .piece .now) (c .before .before .before .before .before .before .before .before .before .before .before .args .line .now) (c .before .before .before .before .take .result) _ (c .before .before .before .before .take .ensures)
 
 pub take-line-spec : {M : Type 1} → statement M
 take-line-spec =

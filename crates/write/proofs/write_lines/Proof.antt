@@ -47,7 +47,7 @@ write-all-requires : tie.Need-write-all-requires Inv-loop μ-loop
 write-all-requires c κs = search needs
 
 returns : tie.Need-returns Inv-loop μ-loop
-returns c = some-then dataHeader _ _ _ _ _ _ (c .before .before .before .before .before .before .before .before .before .before .before .before .before .before .loop .inv) (step-leaves writer _ _ (c .before .before .before .before .before .before .before .before .before .advance .result) _ (c .before .before .before .before .before .before .before .before .before .advance .ensures))
+returns c = some-then dataHeader _ _ _ _ _ _ (c .before .before .before .before .before .before .before .before .before .before .before .before .before .before .loop .inv) (step-leaves writer (c .before .before .before .before .before .before .before .before .before .before .before .before .before .before .loop .current) _ _ (c .before .before .before .before .before .before .before .before .before .advance .result) _ _ (c .before .before .before .before .before .before .before .before .before .advance .ensures))
 
 sub-turns : tie.Need-sub-turns Inv-loop μ-loop
 sub-turns c = search needs
@@ -56,7 +56,7 @@ loop-less : tie.Need-loop-less Inv-loop μ-loop
 loop-less c = search needs
 
 loop-again : tie.Need-loop-again Inv-loop μ-loop
-loop-again c = some-then dataHeader _ _ _ _ _ _ (c .before .before .before .before .before .before .before .before .before .before .before .before .before .before .before .loop .inv) (step-leaves writer _ _ (c .before .before .before .before .before .before .before .before .before .before .advance .result) _ (c .before .before .before .before .before .before .before .before .before .before .advance .ensures))
+loop-again c = some-then dataHeader _ _ _ _ _ _ (c .before .before .before .before .before .before .before .before .before .before .before .before .before .before .before .loop .inv) (step-leaves writer (c .before .before .before .before .before .before .before .before .before .before .before .before .before .before .before .loop .current) _ _ (c .before .before .before .before .before .before .before .before .before .before .advance .result) _ _ (c .before .before .before .before .before .before .before .before .before .before .advance .ensures))
 
 returns-2 : tie.Need-returns-2 Inv-loop μ-loop
 returns-2 c = search needs
