@@ -1,4 +1,4 @@
--- RULES 12: the damage that demand 3 is about.
+-- RULES 13: the damage that demand 3 is about.
 use mathlib.Core.List.{List}
 use Prim.Native.Nat.{ℕ, suc}
 use lib.Dec.{leb}

@@ -1,4 +1,4 @@
--- RULES 10: the bench items, as one table under one statement.
+-- RULES 11: the bench items, as one table under one statement.
 -- Assumes nothing.
 use mathlib.Core.Path.{_≡_, refl, sym, ap, ap₂, _∙_}
 use mathlib.Core.Logic.{_⊎_, inl, inr}

@@ -1,4 +1,4 @@
--- RULES 12: a rule leaves nothing open, neither what is returned nor a byte of the lent output.
+-- RULES 13: a rule leaves nothing open, neither what is returned nor a byte of the lent output.
 -- Assumes nothing.
 use mathlib.Core.Path.{_≡_, refl, sym, ap, _∙_}
 use mathlib.Core.Logic.{_≢_, _↔_, inl, inr}
