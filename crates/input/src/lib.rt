@@ -13,11 +13,11 @@ ghost use Rattle.input.specs.Calls.{atBegin, hasMore, TakesLine, Stops, 
 // The bytes of a read.
 pub const PIECE: usize = 8192;
 
-// The state of the lines, and the part of the piece that was read last which is still to be taken.
+// The state of the lines, and the part of the piece that was read last which is still to be taken: only a step moves it.
 pub struct Input {
     pub state: State,
-    pub from: usize,
-    pub to: usize,
+    from: usize,
+    to: usize,
 }
 
 // The input after a step, what has happened, whether there may be more, and whether the input has ended: neither, where a read
@@ -95,7 +95,7 @@ fn stop(state: State, header: &[u8], line: &[u8], ended: bool) -> Step
     }
 }
 
-// One line more, after a read where all that was read is taken.
+// One line more; reads first where all that was read is taken.
 pub fn advance(input: Input, piece: &mut [u8; PIECE], header: &[u8], line: &mut [u8]) -> Step
     ensures { λ r. ⌜ Steps (now (header .entry)) input (now (piece .entry)) (now (line .entry)) r (now (piece .exit)) (now (line .exit)) ⌝ }
 {

@@ -19,10 +19,10 @@ use Rattle.lines.specs.declared.state.State.{State}
 use Rattle.lines.specs.declared.state.Event.{Event}
 use Rattle.lines.specs.declared.state.Event.the-variants.{Nothing}
 use Rattle.lines.specs.Stream.{atStart, mostLines, following, isHeader, nextLine, longer, stateAfter, eventAtEnd, Kept, keeping, keptAfter, afterAll}
-use Rattle.lines.specs.Say.{eventText}
+use Rattle.lines.specs.Say.{eventText, Regular}
 use Rattle.lines.proofs.StateLaws.{after-rejected, after-lf, end-rejected, end-none}
 use Rattle.lines.proofs.HandedLaws.{textAfter, handed, after-append, handed-append, text-none}
-use Rattle.lines.proofs.RunLaws.{Sound, run, run-output}
+use Rattle.lines.proofs.RunLaws.{run, run-output}
 
 -- ---- after an LF nothing happens at the end
 
@@ -123,7 +123,7 @@ module _ (p : Program) where
 
   -- ---- every input
 
-  module _ (ok : Sound p) (line : List ℕ) (full : length line ≡ p .longest) where
+  module _ (ok : Regular p) (line : List ℕ) (full : length line ≡ p .longest) where
     abbrev begin : Kept
     begin = keeping atStart line
 

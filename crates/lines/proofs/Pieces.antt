@@ -16,10 +16,10 @@ use Rattle.lines.specs.declared.state.Event.{Event}
 use Rattle.lines.specs.declared.state.Taken.{Taken}
 use Rattle.text.specs.Laid.{laid, Lays}
 use Rattle.lines.specs.Stream.{atStart, eventAtEnd, Kept, keeping, afterAll}
-use Rattle.lines.specs.Say.{eventText}
+use Rattle.lines.specs.Say.{eventText, Regular}
 use Rattle.lines.specs.Calls.{Takes, Says}
 use Rattle.lines.proofs.HandedLaws.{handed, after-append, handed-append, piece-left, piece-text, piece-within, piece-some}
-use Rattle.lines.proofs.RunLaws.{Sound, run-output}
+use Rattle.lines.proofs.RunLaws.{run-output}
 use Rattle.lines.proofs.CutLaws.{run-handed, handed-cut}
 
 -- ---- The statement
@@ -105,7 +105,7 @@ calls-bytes p (c ∷ later) s line end left (t, l, rest) =
           b .last ∙ ap (λ (j : Kept). afterAll (p .header) j (inputOf later)) q ∙ sym (after-append (p .header) a (inputOf later) k);
     }
 
-pub pieces : (p : Program) → Sound p → Pieces p
+pub pieces : (p : Program) → Regular p → Pieces p
 pieces p ok = record {
   within = piece-within (p .header);
   some = piece-some (p .header);

@@ -20,16 +20,9 @@ use Rattle.textrules.proofs.Promises.Outputs.{same-is}
 use Rattle.lines.specs.declared.state.State.{State}
 use Rattle.lines.specs.declared.state.Event.{Event}
 use Rattle.lines.specs.Stream.{atStart, mostLines, isHeader, closed, nextLine, longer, eventAtEnd, Kept, keeping, keptAfter}
-use Rattle.lines.specs.Say.{eventText}
+use Rattle.lines.specs.Say.{eventText, Regular}
 use Rattle.lines.proofs.StateLaws.{header-over, closed-first, closed-over, closed-kept, after-rejected, after-lf, after-other, end-rejected, end-none, end-line, between-not}
 use Rattle.lines.proofs.HandedLaws.{textAfter}
-
--- what is asked of a program
-pub record Sound (p : Program) : Type 0 where
-  pub header-some : p .header ≢ []
-  pub header-short : length (p .header) ≤ p .longest
-  -- a line that is too long is bad
-  pub too-long : (k : ℕ) (t : Text) → p .longest < length t → p .lineText k t ≡ questioned k
 
 is-false : (b : Bool) → (b ≡ true → ⊥) → b ≡ false
 is-false true h = absurd (h refl)
@@ -158,7 +151,7 @@ module _ (p : Program) where
 
   -- ---- a whole line
 
-  module _ (ok : Sound p) where
+  module _ (ok : Regular p) where
     too-long-header : (t : Text) → p .longest < length t → same t (p .header) ≡ false
     too-long-header t h =
         is-false (same t (p .header)) (λ k. omega (arith, h, ap length (same-is t (p .header) k), ok .header-short))

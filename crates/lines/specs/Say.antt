@@ -1,7 +1,9 @@
 -- RULES 8: what a program says of what has happened.
+use mathlib.Core.Path.{_≡_}
+use mathlib.Core.Logic.{_≢_}
 use mathlib.Core.List.{List, []}
-use Prim.Native.Nat.{ℕ, _+_}
-use lib.ListN.{take}
+use Prim.Native.Nat.{ℕ, _+_, _≤_, _<_}
+use lib.ListN.{length, take}
 use Rattle.rules.specs.Numbers.{pick}
 use Rattle.textrules.specs.Text.{Text}
 use Rattle.textrules.specs.Programs.{badHeader, questioned, Program}
@@ -22,3 +24,10 @@ eventText p Nothing line = []
 eventText p (Header good) line = pick good (p .opening) badHeader
 eventText p (Line k long) line = p .lineText k (take long line)
 eventText p (Long k) line = questioned k
+
+-- what is asked of a program, for the theorem 'whatever the pieces'
+pub record Regular (p : Program) : Type 0 where
+  pub header-some : p .header ≢ []
+  pub header-short : length (p .header) ≤ p .longest
+  -- a line that is too long is bad
+  pub too-long : (k : ℕ) (t : Text) → p .longest < length t → p .lineText k t ≡ questioned k

@@ -1,0 +1,2 @@
+-- What the program writes, whatever the reads gave
+pub mod Streamed
