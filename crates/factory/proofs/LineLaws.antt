@@ -15,16 +15,16 @@ use Rattle.rules.proofs.Laws.OneOfLaws.{and-both}
 use Rattle.textrules.specs.Text.{Text, decimal, isHex, hexBytes}
 use Rattle.textrules.specs.Programs.{questioned}
 use Rattle.textrules.specs.Dump.{greatestFrame}
-use Rattle.textrules.specs.Factory.{longestData, DataLine, badData, someData, dataOf, blankFrame, frameLine, refusedLine, dataText}
+use Rattle.textrules.specs.Factory.{longestData, DataLine, someData, dataOf, blankFrame, frameLine, refusedLine, givenText, dataText}
 use Rattle.textrules.proofs.Laws.TextLaws.{decimal-short, decimal-small}
-use Rattle.textrules.proofs.Promises.DataRecords.{DataWrittenAs, data-records}
+use Rattle.textrules.proofs.Promises.DataRecords.{NumberShort, short-number}
 use Rattle.textrules.proofs.Promises.Written.{any-number, any-output, outside-number, trip, accepted-most, frame-bytes-most}
 use Rattle.text.specs.declared.record.Opening.{Opening}
 use Rattle.text.specs.Laid.{Lays}
 use Rattle.text.specs.Read.{openingOf}
 use Rattle.text.proofs.LastFieldLaws.{digitsAt, digits-rest}
 use Rattle.text.proofs.DataLaws.{data-bad-opening, data-bad-digits, data-record}
-use Rattle.factory.specs.Room.{NineDigits, FitsLine, bufferFor, recordText}
+use Rattle.factory.specs.Room.{NineDigits, FitsLine, bufferFor}
 
 -- ---- a line by its parts
 
@@ -57,19 +57,11 @@ module _ (s : Text) (o : Opening) (e : o ≡ openingOf s) where
           ∙ ap (λ (d : Text). someData (o .number) (o .n) (hexBytes d)) (sym (digits-rest s (o .after)))
 
       pub number-short : NineDigits (o .number)
-      number-short = go (dataOf s) says (data-records .only-so s)
-        where
-          numberIn : DataLine → ℕ
-          numberIn badData = 0
-          numberIn (someData number n message) = number
-
-          go : (l : DataLine) → l ≡ someData (o .number) (o .n) (hexBytes (digitsAt s (o .after))) → DataWrittenAs s l → NineDigits (o .number)
-          go badData h w = omega (arith, ap numberIn h)
-          go (someData number n message) h w = omega (arith, ap numberIn h, w .1 .number-short)
+      number-short = subst NumberShort says (short-number s)
 
       pub record-written :
           (k : ℕ) (out : List ℕ) (r : ℕ) (exit : List ℕ)
-          → Lays out 0 (recordText (o .number) (o .n) (hexBytes (digitsAt s (o .after)))) r exit → Lays out 0 (dataText k (dataOf s)) r exit
+          → Lays out 0 (givenText (o .number) (o .n) (hexBytes (digitsAt s (o .after)))) r exit → Lays out 0 (dataText k (dataOf s)) r exit
       record-written k out r exit = subst (λ (l : DataLine). Lays out 0 (dataText k l) r exit) (sym says)
 
 -- ---- sizes
@@ -126,7 +118,7 @@ module _ (n : ℕ) (message out : List ℕ) (lent : length out ≡ bufferFor n) 
       go false e = any-output n message out (lent-frame e) z
 
   module _ (number : ℕ) (buffer : List ℕ) (r : ℕ) (exit : List ℕ) (x : ℕ) (is : x ≡ encodeNumber smallCode n message out) where
-    pub refused-written : x ≢ 0 → Lays buffer 0 (refusedLine number x) r exit → Lays buffer 0 (recordText number n message) r exit
+    pub refused-written : x ≢ 0 → Lays buffer 0 (refusedLine number x) r exit → Lays buffer 0 (givenText number n message) r exit
     refused-written d =
         let z : ℕ = encodeNumber smallCode n message (blankFrame n) in
         let e : x ≡ z = is ∙ alike in
@@ -144,7 +136,7 @@ module _ (n : ℕ) (message out : List ℕ) (lent : length out ≡ bufferFor n) 
 
     pub frame-written :
         x ≡ 0 → (frame : List ℕ) → frame ≡ encodeOutput smallCode n message out → Lays buffer 0 (frameLine number n frame) r exit
-        → Lays buffer 0 (recordText number n message) r exit
+        → Lays buffer 0 (givenText number n message) r exit
     frame-written q frame fe =
         let z : ℕ = encodeNumber smallCode n message (blankFrame n) in
         let e : z ≡ 0 = sym (is ∙ alike) ∙ q in

@@ -3,10 +3,9 @@ use mathlib.Core.List.{List}
 use Prim.Native.Nat.{ℕ, _+_, _*_, _^_, _≤_, _<_}
 use lib.ListN.{length}
 use Rattle.rules.specs.Codes.{smallCode}
-use Rattle.rules.specs.Numbers.{pick, outside, frameBytes, encodeNumber, encodeOutput}
-use Rattle.textrules.specs.Text.{Text, mostDigits}
+use Rattle.rules.specs.Numbers.{pick, outside, frameBytes}
+use Rattle.textrules.specs.Text.{mostDigits}
 use Rattle.textrules.specs.Dump.{greatestFrame}
-use Rattle.textrules.specs.Factory.{blankFrame, encodedText}
 
 -- the room for a line of the dump: a number, n with three digits, the allowance with one, each with a tab, the greatest frame and the LF
 abbrev pub dumpRoom : ℕ
@@ -23,8 +22,3 @@ FitsLine number n frame = NineDigits number × (n ≤ smallCode .longest) × (le
 -- the bytes that are lent for a frame: none where n is refused
 abbrev pub bufferFor : ℕ → ℕ
 bufferFor n = pick (outside smallCode n) 0 (frameBytes n)
-
--- what a record gives
-abbrev pub recordText : ℕ → ℕ → List ℕ → Text
-recordText number n message =
-    encodedText number n (encodeNumber smallCode n message (blankFrame n)) (encodeOutput smallCode n message (blankFrame n))

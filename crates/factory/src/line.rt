@@ -17,9 +17,9 @@ ghost use Prim.Native.Nat.{_/_, _≤_};
 ghost use lib.ListN.{length};
 ghost use Rattle.textrules.specs.Text.{isHex, hexBytes};
 ghost use Rattle.textrules.specs.Dump.{greatestFrame};
-ghost use Rattle.textrules.specs.Factory.{longestData, dataOf, dataText};
+ghost use Rattle.textrules.specs.Factory.{longestData, dataOf, givenText, dataText};
 ghost use Rattle.text.specs.Laid.{Lays};
-ghost use Rattle.factory.specs.Room.{dumpRoom, NineDigits, bufferFor, recordText};
+ghost use Rattle.factory.specs.Room.{dumpRoom, NineDigits, bufferFor};
 
 // The bytes that encoding wants lent; where n is refused, it looks at none.
 fn frame_size(n: usize) -> usize
@@ -34,7 +34,7 @@ fn frame_size(n: usize) -> usize
 fn put_encoded(out: &mut [u8], number: usize, n: usize, message: &[u8], frame: &mut [u8]) -> usize
     requires { ⌜ (dumpRoom ≤ length (now out)) × NineDigits number ⌝ }
     requires { ⌜ length (now frame) ≡ bufferFor n ⌝ }
-    ensures { λ r. ⌜ Lays (now (out .entry)) 0 (recordText number n (now (message .entry))) r (now (out .exit)) ⌝ }
+    ensures { λ r. ⌜ Lays (now (out .entry)) 0 (givenText number n (now (message .entry))) r (now (out .exit)) ⌝ }
 {
     let refusal = encode(n, message, frame);
     if refusal != DONE {
@@ -55,7 +55,7 @@ fn put_into(
     requires { ⌜ (dumpRoom ≤ length (now out)) × NineDigits number ⌝ }
     requires { ⌜ isHex (now digits) ≡ true ⌝ }
     requires { ⌜ (length (now digits) / 2 ≤ length (now message)) × (length (now frame) ≡ greatestFrame) ⌝ }
-    ensures { λ r. ⌜ Lays (now (out .entry)) 0 (recordText number n (hexBytes (now (digits .entry)))) r (now (out .exit)) ⌝ }
+    ensures { λ r. ⌜ Lays (now (out .entry)) 0 (givenText number n (hexBytes (now (digits .entry)))) r (now (out .exit)) ⌝ }
 {
     let bytes = bytes_of(digits, message);
     let size = frame_size(n);
@@ -66,7 +66,7 @@ fn put_digits(out: &mut [u8], number: usize, n: usize, digits: &[u8]) -> usize
     requires { ⌜ (dumpRoom ≤ length (now out)) × NineDigits number ⌝ }
     requires { ⌜ isHex (now digits) ≡ true ⌝ }
     requires { ⌜ length (now digits) ≤ longestData ⌝ }
-    ensures { λ r. ⌜ Lays (now (out .entry)) 0 (recordText number n (hexBytes (now (digits .entry)))) r (now (out .exit)) ⌝ }
+    ensures { λ r. ⌜ Lays (now (out .entry)) 0 (givenText number n (hexBytes (now (digits .entry)))) r (now (out .exit)) ⌝ }
 {
     let mut message = [0u8; MOST_BYTES];
     let mut frame = [0u8; GREATEST_FRAME];

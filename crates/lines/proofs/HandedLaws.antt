@@ -8,7 +8,6 @@ use Prim.Native.Nat.{ℕ, suc, _+_, _-_, _≤_, _<_}
 use native.Mathlib.Decide.{ℕ-discrete}
 use native.Mathlib.Omega.{arith}
 use lib.ListN.{length, take}
-use lib.Seq.{take-length}
 use Rattle.textrules.specs.Text.{Text, lf}
 use Rattle.textrules.specs.Programs.{Program}
 use Rattle.lines.specs.declared.state.State.{State}
@@ -117,7 +116,6 @@ module _ (p : Program) where
       go : (b : Bool) → k .state .rejected ≡ b → Took k 0 piece (stopped (p .header) k piece)
       go true e =
           let q = stopped-rejected (p .header) k piece e in
-          let all = take-length piece in
           record {
             many = length piece;
             bytes = ap (λ (u : Stop). u .taken) q ∙ omega arith;

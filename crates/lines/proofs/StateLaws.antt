@@ -1,9 +1,9 @@
 -- One byte's rule, case by case, as the code goes.
 -- Assumes nothing.
-use mathlib.Core.Path.{_≡_, refl, sym, ap, ap₂, subst, _∙_}
+use mathlib.Core.Path.{_≡_, sym, ap, ap₂, subst, _∙_}
 use mathlib.Core.Logic.{_≢_}
 use mathlib.Core.Bool.{Bool, true, false, not, _&&_}
-use mathlib.Core.List.{List, []}
+use mathlib.Core.List.{List}
 use Prim.Native.Nat.{ℕ, suc, _+_, _-_, _≤_, _<_}
 use native.Mathlib.Nat.{sub-zero}
 use native.Mathlib.Numerals.{add-one}
@@ -16,7 +16,6 @@ use Rattle.rules.specs.Numbers.{pick}
 use Rattle.textrules.specs.Text.{Text, lf, same}
 use Rattle.textrules.specs.Programs.{Program}
 use Rattle.text.specs.Laid.{Lays}
-use Rattle.text.proofs.LaidLaws.{laid-none, lays-length}
 use Rattle.lines.specs.declared.state.State.{State}
 use Rattle.lines.specs.declared.state.Event.{Event}
 use Rattle.lines.specs.declared.state.Event.the-variants.{Nothing, Header, Line, Long}
@@ -37,23 +36,11 @@ following-same k h = picked (suc k) k (le-ltb k mostLines h)
 pub keep-out : (line : List ℕ) (p x : ℕ) → length line ≤ p → line ≡ set line p x
 keep-out line p x h = sym (set-out line p x h)
 
--- the same text, by another description
-pub lays-as : (out : List ℕ) (at r : ℕ) (exit : List ℕ) (t u : Text) → t ≡ u → Lays out at t r exit → Lays out at u r exit
-lays-as out at r exit t u e = subst (λ (x : Text). Lays out at x r exit) e
-
 -- what a program says of an event, known by its case
 pub says-as :
     (p : Program) (e d : Event) → e ≡ d → (line out : List ℕ) (r : ℕ) (exit : List ℕ) → length line ≡ p .longest
     → Lays out 0 (eventText p d line) r exit → Says p e line out r exit
 says-as p e d q line out r exit h l = (h, subst (λ (v : Event). Lays out 0 (eventText p v line) r exit) (sym q) l)
-
--- a text that is laid stands within the lent buffer
-pub lays-within : (out : List ℕ) (at : ℕ) (t : Text) (r : ℕ) (exit : List ℕ) → Lays out at t r exit → r ≤ length exit
-lays-within out at t r exit h = omega (arith, h .1, lays-length out at t r exit h)
-
--- nothing is laid
-pub lays-nothing : (out : List ℕ) → Lays out 0 [] 0 out
-lays-nothing out = (refl, omega arith, sym (laid-none out 0))
 
 -- ---- a part of the line buffer
 

@@ -3,7 +3,7 @@
 use mathlib.Core.Path.{_≡_, refl, sym, ap, ap₂, _∙_}
 use mathlib.Core.Logic.{_≢_}
 use mathlib.Core.Bool.{Bool, true, false}
-use mathlib.Core.List.{List, [], _∷_}
+use mathlib.Core.List.{List, _∷_}
 use Prim.Native.Nat.{ℕ, suc, _+_, _≤_, _<_}
 use native.Mathlib.Numerals.{add-one}
 use native.Mathlib.Omega.{arith}
@@ -25,7 +25,7 @@ abbrev atLf : Text → Kept → ℕ → ℕ → Stop
 atLf header k i x = record { kept = keptAfter header k x; event = eventAfter header (k .state) (k .line) x; taken = suc i }
 
 -- where all of it was taken
-abbrev pub atAll : Kept → ℕ → Stop
+abbrev atAll : Kept → ℕ → Stop
 atAll k i = record { kept = k; event = Nothing; taken = i }
 
 pub up-lf : (header : Text) (k : Kept) (i x : ℕ) (m : Text) → x ≡ lf → upToLf header k i (x ∷ m) ≡ atLf header k i x
@@ -46,15 +46,6 @@ stopped-going header k piece e = ap (λ (b : Bool). pick b (atAll k (length piec
 pub stopped-rejected : (header : Text) (k : Kept) (piece : Text) → k .state .rejected ≡ true → stopped header k piece ≡ atAll k (length piece)
 unfolding stopped
 stopped-rejected header k piece e = ap (λ (b : Bool). pick b (atAll k (length piece)) (upToLf header k 0 piece)) e
-
--- of nothing nothing is taken
-pub stopped-none : (header : Text) (k : Kept) → stopped header k [] ≡ atAll k 0
-unfolding stopped upToLf
-stopped-none header k = go (k .state .rejected)
-  where
-    go : (b : Bool) → pick b (atAll k 0) (atAll k 0) ≡ atAll k 0
-    go true = refl
-    go false = refl
 
 -- ---- the loop: what is left to take from here is the whole answer
 

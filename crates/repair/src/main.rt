@@ -21,7 +21,7 @@ struct End {
 }
 
 // Says of each line what it gives. A proved loop has to end: it counts down from a number of turns that no run uses up.
-fn report_all(line: &mut [u8; LONGEST_LINE]) -> End
+fn write_report(line: &mut [u8; LONGEST_LINE]) -> End
     ensures { λ r. ⌜ LeavesSome header atStart (now (line .entry)) (r .state) (now (line .exit)) ⌝ }
 {
     let mut piece = [0u8; PIECE];
@@ -69,7 +69,7 @@ fn complain(written: bool) {
 
 fn main() {
     let mut line = [0u8; LONGEST_LINE];
-    let end = report_all(&mut line);
+    let end = write_report(&mut line);
     if !end.at_end || !end.written {
         complain(end.written);
     }

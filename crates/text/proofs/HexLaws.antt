@@ -9,6 +9,7 @@ use lib.ListN.{length, getD, set, length-set}
 use borrow.Author.Tests.{eqb-true}
 use Rattle.algebra.specs.Tables.{allBelow}
 use Rattle.algebra.proofs.TableLaws.{below-each}
+use Rattle.textrules.proofs.Laws.DigitFormLaws.{hex-length}
 use Rattle.textrules.specs.Text.{hexDigit, hexText}
 use Rattle.text.specs.Laid.{Lays}
 use Rattle.text.proofs.LaidLaws.{Laying, laying-none, laying-next, laying-all}
@@ -28,11 +29,6 @@ letter-is {h} m l =
     ∙ ap (λ (k : ℕ). hexDigit k) e
 
 -- ---- the digits of bytes
-
-pub hex-text-length : (b : List ℕ) → length (hexText b) ≡ 2 * length b
-unfolding hexText
-hex-text-length [] = refl
-hex-text-length (x ∷ b) = omega (arith, hex-text-length b)
 
 -- those of byte i
 hex-text-at :
@@ -54,7 +50,7 @@ abbrev pub HexLaying : List ℕ → ℕ → List ℕ → ℕ → ℕ → List �
 HexLaying s₀ at b end i s = (end ≡ length b) × Laying s₀ at (hexText b) (2 * end) (2 * i) s
 
 pub hex-none : (s : List ℕ) (at : ℕ) (b : List ℕ) → at + 2 * length b ≤ length s → HexLaying s at b (length b) 0 s
-hex-none s at b h = (refl, laying-none (sym (hex-text-length b)) (omega (arith, hex-text-length b)))
+hex-none s at b h = (refl, laying-none (sym (hex-length b)) (omega (arith, hex-length b)))
 
 module _ {s₀ s : List ℕ} {at end i : ℕ} (b : List ℕ) (g : HexLaying s₀ at b end i s) where
   -- the second digit has room too
@@ -74,4 +70,4 @@ module _ {s₀ s : List ℕ} {at end i : ℕ} (b : List ℕ) (g : HexLaying s₀
       (g .0, rw (← next) (rw (← place) (rw (← u) (rw (← v) two))))
 
   pub hex-all : end ≤ i → Lays s₀ at (hexText b) (at + 2 * length b) s
-  hex-all h = (omega (arith, hex-text-length b), omega (arith, hex-text-length b, g .1 .room), laying-all (g .1) (omega arith))
+  hex-all h = (omega (arith, hex-length b), omega (arith, hex-length b, g .1 .room), laying-all (g .1) (omega arith))

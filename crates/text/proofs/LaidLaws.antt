@@ -1,6 +1,6 @@
 -- Laws of texts laid into a buffer one after the other.
 -- Assumes nothing.
-use mathlib.Core.Path.{_≡_, refl, sym, ap, ap₂, _∙_}
+use mathlib.Core.Path.{_≡_, refl, sym, ap, ap₂, _∙_, subst}
 use mathlib.Core.List.{List, [], _∷_, _++_, append-assoc}
 use Prim.Native.Nat.{ℕ, _+_, _^_, _≤_, _<_}
 use native.Mathlib.Nat.{add-zero, add-assoc, lt-of-lt-of-le}
@@ -112,3 +112,15 @@ digits-few x h = decimal-short x 20 (lt-of-lt-of-le h (leb→le 1844674407370955
 
 pub lays-length : (s : List ℕ) (at : ℕ) (t : Text) (r : ℕ) (exit : List ℕ) → Lays s at t r exit → length exit ≡ length s
 lays-length s at t r exit l = ap length (l .2) ∙ laid-length s at t (omega (arith, l .0, l .1))
+
+-- the same text, by another description
+pub lays-as : (out : List ℕ) (at r : ℕ) (exit : List ℕ) (t u : Text) → t ≡ u → Lays out at t r exit → Lays out at u r exit
+lays-as out at r exit t u e = subst (λ (x : Text). Lays out at x r exit) e
+
+-- a text that is laid stands within the lent buffer
+pub lays-within : (out : List ℕ) (at : ℕ) (t : Text) (r : ℕ) (exit : List ℕ) → Lays out at t r exit → r ≤ length exit
+lays-within out at t r exit h = omega (arith, h .1, lays-length out at t r exit h)
+
+-- nothing is laid
+pub lays-nothing : (out : List ℕ) → Lays out 0 [] 0 out
+lays-nothing out = (refl, omega arith, sym (laid-none out 0))

@@ -57,7 +57,7 @@ frameLine number n frame = outLine (decimal number) (decimal n ∷ decimal given
 abbrev pub refusedLine : ℕ → ℕ → Text
 refusedLine number r = outLine (ascii "!") (decimal number ∷ decimal r ∷ [])
 
--- the buffer that is lent for the frame
+-- a buffer of the frame's length: what such a one holds makes no difference
 abbrev pub blankFrame : ℕ → List ℕ
 blankFrame n = replicate (frameBytes n) 0
 
@@ -65,11 +65,15 @@ blankFrame n = replicate (frameBytes n) 0
 abbrev pub encodedText : ℕ → ℕ → ℕ → List ℕ → Text
 encodedText number n r frame = pick (eqb r 0) (frameLine number n frame) (refusedLine number r)
 
+-- what a record gives
+abbrev pub givenText : ℕ → ℕ → List ℕ → Text
+givenText number n message =
+    encodedText number n (encodeNumber smallCode n message (blankFrame n)) (encodeOutput smallCode n message (blankFrame n))
+
 -- what line k gives
 abbrev pub dataText : ℕ → DataLine → Text
 dataText k badData = questioned k
-dataText k (someData number n message) =
-    encodedText number n (encodeNumber smallCode n message (blankFrame n)) (encodeOutput smallCode n message (blankFrame n))
+dataText k (someData number n message) = givenText number n message
 
 -- the program that writes a dump
 abbrev pub writer : Program

@@ -37,7 +37,7 @@ unfoldable pub outputFrom : Program → ℕ → List Text → Text
 outputFrom p k [] = []
 outputFrom p k (s ∷ later) = p .lineText k s ++ outputFrom p (suc k) later
 
--- nothing is given where the first line is not the header, or is missing
+-- nothing but `bad header` is given where the first line is another, or is missing
 abbrev pub underHeader : Program → List Text → Text
 underHeader p [] = badHeader
 underHeader p (s ∷ later) = pick (same s (p .header)) (p .opening ++ outputFrom p 2 later) badHeader

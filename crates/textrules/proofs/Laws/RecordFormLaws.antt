@@ -20,13 +20,13 @@ use Rattle.textrules.proofs.Laws.DigitFormLaws.{decimal-good, good-deci
 
 -- ---- the writing
 
-abbrev pub written : List ℕ → List ℕ → Text
-written [] bytes = hexText bytes
-written (x ∷ xs) bytes = decimal x ++ tabulator ∷ written xs bytes
+abbrev pub spelled : List ℕ → List ℕ → Text
+spelled [] bytes = hexText bytes
+spelled (x ∷ xs) bytes = decimal x ++ tabulator ∷ spelled xs bytes
 
 -- numbers of nine digits, and bytes
-abbrev pub Written : List ℕ → List ℕ → Type 0
-Written xs bytes = AllN (λ x. x < 10 ^ 9) xs × AllN (λ x. x < 256) bytes
+abbrev pub Spellable : List ℕ → List ℕ → Type 0
+Spellable xs bytes = AllN (λ x. x < 10 ^ 9) xs × AllN (λ x. x < 256) bytes
 
 -- no tab stands in a number or in hex, so the fields are these
 decimal-no-tab : (x : ℕ) → AllN (λ c. c ≢ tabulator) (decimal x)
@@ -37,23 +37,23 @@ hex-no-tab bytes h =
     all-so (λ c. isHexDigit c ≡ true) (λ c. c ≢ tabulator) (λ c t e. false≢true (sym (ap isHexDigit e) ∙ t)) (hexText bytes)
     (hex-all bytes h)
 
-fields-written : (xs bytes : List ℕ) → AllN (λ x. x < 256) bytes → fields (written xs bytes) ≡ map decimal xs ++ (hexText bytes ∷ [])
+fields-written : (xs bytes : List ℕ) → AllN (λ x. x < 256) bytes → fields (spelled xs bytes) ≡ map decimal xs ++ (hexText bytes ∷ [])
 fields-written [] bytes h = fields-one (hexText bytes) (hex-no-tab bytes h)
 fields-written (x ∷ xs) bytes h =
-    fields-cut (decimal x) (written xs bytes) (decimal-no-tab x) ∙ ap (λ l. decimal x ∷ l) (fields-written xs bytes h)
+    fields-cut (decimal x) (spelled xs bytes) (decimal-no-tab x) ∙ ap (λ l. decimal x ∷ l) (fields-written xs bytes h)
 
 -- ---- its length
 
-pub written-most : (xs bytes : List ℕ) → AllN (λ x. x < 10 ^ 9) xs → length (written xs bytes) ≤ 10 * length xs + 2 * length bytes
+pub written-most : (xs bytes : List ℕ) → AllN (λ x. x < 10 ^ 9) xs → length (spelled xs bytes) ≤ 10 * length xs + 2 * length bytes
 written-most [] bytes h = omega (arith, hex-length bytes)
 written-most (x ∷ xs) bytes h =
-    let parts = length-append (decimal x) (tabulator ∷ written xs bytes) in
+    let parts = length-append (decimal x) (tabulator ∷ spelled xs bytes) in
     omega (arith, parts, decimal-short x 9 (h .0) (omega arith), written-most xs bytes (h .1))
 
-pub written-nines : (k : ℕ) (bytes : List ℕ) → length (written (replicate k 999999999) bytes) ≡ 10 * k + 2 * length bytes
+pub written-nines : (k : ℕ) (bytes : List ℕ) → length (spelled (replicate k 999999999) bytes) ≡ 10 * k + 2 * length bytes
 written-nines zero bytes = omega (arith, hex-length bytes)
 written-nines (suc k) bytes =
-    let parts = length-append (decimal 999999999) (tabulator ∷ written (replicate k 999999999) bytes) in
+    let parts = length-append (decimal 999999999) (tabulator ∷ spelled (replicate k 999999999) bytes) in
     omega (arith, parts, nine-nines, written-nines k bytes)
 
 -- ---- the tests, from left to right: those before, each number's, and that of the bytes
@@ -62,9 +62,9 @@ unfoldable pub passes : Bool → List Text → Text → Bool
 passes b [] t = b && isHex t
 passes b (d ∷ ds) t = passes (b && isDecimal d) ds t
 
--- what is written passes
+-- what is spelled passes
 passes-written :
-    (b : Bool) (xs bytes : List ℕ) → b ≡ true → Written xs bytes → passes b (map decimal xs) (hexText bytes) ≡ true
+    (b : Bool) (xs bytes : List ℕ) → b ≡ true → Spellable xs bytes → passes b (map decimal xs) (hexText bytes) ≡ true
 unfolding passes
 passes-written b [] bytes e h = ap₂ _&&_ e (hex-good bytes (h .1))
 passes-written b (x ∷ xs) bytes e h =
@@ -76,10 +76,10 @@ unfolding passes
 passes-not [] t = refl
 passes-not (d ∷ ds) t = passes-not ds t
 
--- what passes is written so
+-- what passes is spelled so
 abbrev Passed : List Text → Text → Type 0
 Passed ds t =
-    (tabbed (ds ++ (t ∷ [])) ≡ tabulator ∷ written (map decimalValue ds) (hexBytes t)) × Written (map decimalValue ds) (hexBytes t)
+    (tabbed (ds ++ (t ∷ [])) ≡ tabulator ∷ spelled (map decimalValue ds) (hexBytes t)) × Spellable (map decimalValue ds) (hexBytes t)
 
 passed : (b : Bool) (ds : List Text) (t : Text) → passes b ds t ≡ true → (b ≡ true) × Passed ds t
 unfolding passes
@@ -99,7 +99,7 @@ passed b (d ∷ ds) t h =
 abbrev pub front : ℕ → List Text → List Text
 front k fs = tab k (λ i. getD fs i [])
 
--- what is written as k numbers and bytes has k + 1 fields: the first k, and the last
+-- what is spelled as k numbers and bytes has k + 1 fields: the first k, and the last
 front-of : (xs : List ℕ) (t : Text) → front (length xs) (map decimal xs ++ (t ∷ [])) ≡ map decimal xs
 front-of xs t =
     let long = length-map xs decimal in
@@ -132,21 +132,21 @@ module _ {A : Type 0} (most : ℕ) (say : List ℕ → List ℕ → A) (no : A) 
   fieldsSay k b fs =
       pick (passes (b && eqb (length fs) (suc k)) (front k fs) (getD fs k [])) (fieldSay (front k fs) (getD fs k [])) no
 
-  abbrev pub lineSays : ℕ → Text → A
-  lineSays k s = fieldsSay k (leb (length s) most) (fields s)
+  abbrev pub lineRead : ℕ → Text → A
+  lineRead k s = fieldsSay k (leb (length s) most) (fields s)
 
-  -- what is written is read back
+  -- what is spelled is read back
   pub says-written :
-      (xs bytes : List ℕ) → Written xs bytes → length (written xs bytes) ≤ most
-      → lineSays (length xs) (written xs bytes) ≡ say xs bytes
+      (xs bytes : List ℕ) → Spellable xs bytes → length (spelled xs bytes) ≤ most
+      → lineRead (length xs) (spelled xs bytes) ≡ say xs bytes
   says-written xs bytes h l =
       let ds : List Text = map decimal xs in
       let t : Text = hexText bytes in
-      let a : Bool = leb (length (written xs bytes)) most in
+      let a : Bool = leb (length (spelled xs bytes)) most in
       let b : Bool = a && eqb (length (ds ++ (t ∷ []))) (suc (length xs)) in
       let long = length-append ds (t ∷ []) ∙ ap (λ m. m + 1) (length-map xs decimal) in
       let tested : b ≡ true =
-      ap₂ _&&_ (le-leb (length (written xs bytes)) most l) (eq-eqb (length (ds ++ (t ∷ []))) (suc (length xs)) (omega (arith, long))) in
+      ap₂ _&&_ (le-leb (length (spelled xs bytes)) most l) (eq-eqb (length (ds ++ (t ∷ []))) (suc (length xs)) (omega (arith, long))) in
       ap (fieldsSay (length xs) a) (fields-written xs bytes (h .1))
       ∙ ap₂ (λ us u. pick (passes b us u) (fieldSay us u) no) (front-of xs t) (last-of xs t)
       ∙ ap (λ c. pick c (fieldSay ds t) no) (passes-written b xs bytes tested h)
@@ -162,9 +162,9 @@ module _ {A : Type 0} (most : ℕ) (say : List ℕ → List ℕ → A) (no : A) 
     -- a line that says something is its writing
     pub says-only :
         (P : A → Type 0) → P no
-        → (s ≡ written (map decimalValue ds) (hexBytes t) → Written (map decimalValue ds) (hexBytes t) → length s ≤ most
+        → (s ≡ spelled (map decimalValue ds) (hexBytes t) → Spellable (map decimalValue ds) (hexBytes t) → length s ≤ most
         → P (fieldSay ds t))
-        → P (lineSays k s)
+        → P (lineRead k s)
     says-only P none one = go (passes b ds t) refl
       where
         b : Bool
@@ -179,6 +179,6 @@ module _ {A : Type 0} (most : ℕ) (say : List ℕ → List ℕ → A) (no : A) 
             one (tail-eq-of-cons-eq (sym (fields-tabbed s) ∙ ap tabbed parts ∙ p .1 .0)) (p .1 .1) (leb-true (length s) most (q .0))
 
     -- a line that is too long says nothing
-    pub says-not : most < length s → lineSays k s ≡ no
+    pub says-not : most < length s → lineRead k s ≡ no
     says-not h =
         ap (λ b. fieldsSay k b (fields s)) (lt-leb (length s) most h) ∙ ap (λ b. pick b (fieldSay ds t) no) (passes-not ds t)

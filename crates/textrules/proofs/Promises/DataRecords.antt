@@ -14,12 +14,12 @@ use Rattle.rules.specs.Numbers.{dataBytes}
 use Rattle.textrules.specs.Text.{Text, ascii, decimal, hexText}
 use Rattle.textrules.specs.Factory.{longestData, DataLine, badData, someData, dataOf}
 use Rattle.textrules.proofs.Laws.Computing.{computing}
-use Rattle.textrules.proofs.Laws.RecordFormLaws.{written, written-most, written-nines, passes, lineSays, says-written, says-only, says-not}
+use Rattle.textrules.proofs.Laws.RecordFormLaws.{spelled, written-most, written-nines, passes, lineRead, says-written, says-only, says-not}
 use Rattle.textrules.proofs.Promises.Records.{AreBytes}
 
 -- ---- The statement
 
--- how a record is written: its number and n in decimal, the data in hex, a tab between two of them
+-- how a record is spelled: its number and n in decimal, the data in hex, a tab between two of them
 abbrev pub dataLine : ℕ → ℕ → List ℕ → Text
 dataLine number n message = decimal number ++ ascii "\t" ++ decimal n ++ ascii "\t" ++ hexText message
 
@@ -106,7 +106,7 @@ data-examples = refl
 -- ---- a line
 
 -- the brackets moved to the right
-data-written : (number n : ℕ) (message : List ℕ) → dataLine number n message ≡ written (number ∷ n ∷ []) message
+data-written : (number n : ℕ) (message : List ℕ) → dataLine number n message ≡ spelled (number ∷ n ∷ []) message
 data-written number n message = simp append-assoc
 
 -- two numbers and bytes as a record
@@ -114,7 +114,7 @@ abbrev said : List ℕ → List ℕ → DataLine
 said xs message = someData (getD xs 0 0) (getD xs 1 0) message
 
 -- what a line says, as any line of numbers and bytes does
-data-says : (s : Text) → dataOf s ≡ lineSays longestData said badData 2 s
+data-says : (s : Text) → dataOf s ≡ lineRead longestData said badData 2 s
 unfolding dataOf passes tab tabFrom
 data-says s = refl
 
@@ -124,7 +124,7 @@ data-back :
 data-back number n message h =
     let is = data-written number n message in
     ap dataOf is
-    ∙ data-says (written (number ∷ n ∷ []) message)
+    ∙ data-says (spelled (number ∷ n ∷ []) message)
     ∙ says-written longestData said badData (number ∷ n ∷ []) message ((h .number-short, (h .n-short, tt)), h .bytes)
     (rw (← is) (h .line-short))
 
@@ -158,6 +158,18 @@ data-records = record {
       let p = ap parts (sym (data-back number n message h) ∙ ap dataOf e ∙ data-back number′ n′ message′ h′) in
       (ap (λ q. q .1) p, ap (λ q. q .2) p, ap (λ q. q .3) p);
 }
+
+-- the number that a line says has nine digits at most
+abbrev pub NumberShort : DataLine → Type 0
+NumberShort badData = Unit {0}
+NumberShort (someData number n message) = number < 10 ^ 9
+
+pub short-number : (s : Text) → NumberShort (dataOf s)
+short-number s = go (dataOf s) (data-only s)
+  where
+    go : (l : DataLine) → DataWrittenAs s l → NumberShort l
+    go badData h = tt
+    go (someData number n message) h = h .1 .number-short
 
 -- ---- the longest
 

@@ -23,7 +23,7 @@ use Rattle.textrules.specs.Factory.{longestData, DataLine, badData, some
 use Rattle.textrules.proofs.Laws.Computing.{computing}
 use Rattle.textrules.proofs.Laws.TextLaws.{Digit, decimal-digits, decimal-some, tabbed}
 use Rattle.textrules.proofs.Promises.Records.{recordLine, AreBytes, RecordFits, records}
-use Rattle.textrules.proofs.Promises.DataRecords.{dataLine, DataFits, DataWrittenAs, data-records}
+use Rattle.textrules.proofs.Promises.DataRecords.{dataLine, DataFits, data-records, NumberShort, short-number}
 use Rattle.textrules.proofs.Promises.LongestLine.{longest-line}
 use Rattle.textrules.proofs.Promises.Lines.{NoLF, lines-cut}
 use Rattle.textrules.proofs.Promises.Outputs.{joinedTexts, same-is, same-not, outputs, output-under, out-line, line-no-lf, decimal-no-lf, quoted-no-lf}
@@ -288,18 +288,6 @@ found-refused k number n message some =
           ∙ sym (at-other r (decimal number ++ ascii "\tclean\t0\t0\t0\t0\n") (ascii "?\t" ++ decimal k ++ ascii "\n") some),
     )
 
--- the number that a line says has nine digits at most
-abbrev NumberShort : DataLine → Type 0
-NumberShort badData = Unit {0}
-NumberShort (someData number n message) = number < 10 ^ 9
-
-number-short : (s : Text) → NumberShort (dataOf s)
-number-short s = go (dataOf s) (data-records .only-so s)
-  where
-    go : (l : DataLine) → DataWrittenAs s l → NumberShort l
-    go badData h = tt
-    go (someData number n message) h = h .1 .number-short
-
 found-each : (k : ℕ) (l : DataLine) → NumberShort l → Found k l
 found-each k badData h = found-bad k
 found-each k (someData number n message) h = go (ℕ-discrete (encodeNumber smallCode n message (blankFrame n)) 0)
@@ -316,7 +304,7 @@ chain = record {
   hands = refl;
   one = quoted-no-lf (ascii "frames\t1") refl;
   other = λ e. omega (arith, ap (λ l. getD l 0 0) e);
-  each = λ k s. found-each k (dataOf s) (number-short s);
+  each = λ k s. found-each k (dataOf s) (short-number s);
 }
 
 -- ---- both programs

@@ -15,11 +15,11 @@ use Rattle.textrules.specs.Dump.{longestLine, Line, badLine, aRecord, li
 use Rattle.textrules.proofs.Laws.Computing.{computing}
 use Rattle.textrules.proofs.Laws.TextLaws.{decimal-small, decimal-digits, decimal-first, decimal-some, decimal-short, decimal-value}
 use Rattle.textrules.proofs.Laws.DigitFormLaws.{nine-digits, good-decimal, hex-back, good-hex}
-use Rattle.textrules.proofs.Laws.RecordFormLaws.{written, passes, lineSays, says-written, says-only, says-not}
+use Rattle.textrules.proofs.Laws.RecordFormLaws.{spelled, passes, lineRead, says-written, says-only, says-not}
 
 -- ---- The statement
 
--- how a record is written: its number, n and allowance in decimal, the frame in hex, a tab between two of them
+-- how a record is spelled: its number, n and allowance in decimal, the frame in hex, a tab between two of them
 abbrev pub recordLine : ℕ → ℕ → ℕ → List ℕ → Text
 recordLine number n allowance frame =
     decimal number ++ ascii "\t" ++ decimal n ++ ascii "\t" ++ decimal allowance ++ ascii "\t" ++ hexText frame
@@ -116,7 +116,7 @@ line-examples = refl
 -- the brackets moved to the right
 pub record-written :
     (number n allowance : ℕ) (frame : List ℕ)
-    → recordLine number n allowance frame ≡ written (number ∷ n ∷ allowance ∷ []) frame
+    → recordLine number n allowance frame ≡ spelled (number ∷ n ∷ allowance ∷ []) frame
 record-written number n allowance frame = simp append-assoc
 
 -- three numbers and bytes as a record
@@ -124,7 +124,7 @@ abbrev said : List ℕ → List ℕ → Line
 said xs frame = aRecord (getD xs 0 0) (getD xs 1 0) (getD xs 2 0) frame
 
 -- what a line says, as any line of numbers and bytes does
-line-says : (s : Text) → lineOf s ≡ lineSays longestLine said badLine 3 s
+line-says : (s : Text) → lineOf s ≡ lineRead longestLine said badLine 3 s
 unfolding lineOf passes tab tabFrom
 line-says s = refl
 
@@ -135,7 +135,7 @@ line-back :
 line-back number n allowance frame h =
     let is = record-written number n allowance frame in
     ap lineOf is
-    ∙ line-says (written (number ∷ n ∷ allowance ∷ []) frame)
+    ∙ line-says (spelled (number ∷ n ∷ allowance ∷ []) frame)
     ∙ says-written longestLine said badLine (number ∷ n ∷ allowance ∷ []) frame
     ((h .number-short, (h .n-short, (h .allowance-short, tt))), h .bytes) (rw (← is) (h .line-short))
 

@@ -7,7 +7,7 @@ use mathlib.Core.List.{List, [], _∷_, _++_, append-assoc}
 use Prim.Native.Nat.{ℕ, zero, suc, _+_, _*_, _/_, _%_, _^_, _≤_, _<_}
 use native.Mathlib.Nat.{mul-le-mul}
 use native.Mathlib.Omega.{arith}
-use lib.Dec.{eqb}
+use lib.Dec.{leb→le, eqb}
 use lib.ListN.{length, getD, length-append, length-replicate}
 use Rattle.algebra.specs.Sums.{All, AllN}
 use Rattle.algebra.specs.Tables.{tab}
@@ -23,9 +23,10 @@ use Rattle.rules.proofs.Promises.RoundTrip.{Trip, round-trips}
 use Rattle.textrules.specs.Text.{Text, ascii, lines, every, digits, decimal, hexDigit, hexText}
 use Rattle.textrules.specs.Programs.{output, outputCut}
 use Rattle.textrules.specs.Dump.{longestLine}
-use Rattle.textrules.specs.Factory.{DataLine, badData, someData, dataOf, givenAllowance, frameLine, refusedLine, blankFrame, encodedText, dataText, writer}
+use Rattle.textrules.specs.Factory.{DataLine, badData, someData, dataOf, givenAllowance, frameLine, refusedLine, blankFrame, encodedText, givenText, dataText, writer}
 use Rattle.textrules.proofs.Laws.Computing.{computing}
 use Rattle.textrules.proofs.Laws.TextLaws.{decimal-short}
+use Rattle.textrules.proofs.Promises.DataRecords.{NumberShort, short-number}
 use Rattle.textrules.proofs.Promises.Lines.{NoLF, joinedLines}
 use Rattle.textrules.proofs.Promises.Outputs.{joinedTexts, outputs, one-lf, decimal-no-lf, quoted-no-lf}
 use Rattle.textrules.proofs.Laws.DigitFormLaws.{hex-length}
@@ -95,10 +96,9 @@ pub record Written : Type 0 where
       → (encodeNumber smallCode n message out ≡ 1) × (encodeNumber smallCode n message (blankFrame n) ≡ 1)
   -- each line gives one line, closed by LF
   pub one-line : (k : ℕ) (l : DataLine) → (t : Text) × NoLF t × (dataText k l ≡ t ++ ascii "\n")
-  -- which the program that reports has room for: 9 + 1 + 3 + 1 + 1 + 1 + 16384 characters, and the LF
-  pub short :
-      (k number n : ℕ) (message : List ℕ) → number < 10 ^ 9 → length (dataText k (someData number n message)) ≤ 16401
-  pub room : 16401 ≤ longestLine + 1
+  -- of at most 9 + 1 + 3 + 1 + 1 + 1 + 16384 characters besides, whatever the line, and the program that reports has room for those
+  pub short : (k : ℕ) (s : Text) → k < 2 ^ 64 → length (dataText k (dataOf s)) ≤ suc 16400
+  pub room : 16400 ≤ longestLine
   -- the number itself
   pub allowance : givenAllowance ≡ 8
 
@@ -206,7 +206,7 @@ unfolding every
 hex-digit-no-lf h =
     all-at (λ x. x ≢ 10) (ascii "0123456789ABCDEF") 0 h (quoted-no-lf (ascii "0123456789ABCDEF") refl) (λ e. omega (arith, e))
 
-pub hex-no-lf : (frame : List ℕ) → NoLF (hexText frame)
+hex-no-lf : (frame : List ℕ) → NoLF (hexText frame)
 unfolding hexText
 hex-no-lf [] = tt
 hex-no-lf (x ∷ frame) = (hex-digit-no-lf (x / 16), (hex-digit-no-lf (x % 16), hex-no-lf frame))
@@ -234,7 +234,7 @@ pub frame-bytes-most : (n : ℕ) → n ≤ 256 → frameBytes n ≤ 8192
 frame-bytes-most n h = let wide : rowBytes n ≤ 32 = omega arith in mul-le-mul h wide
 
 -- the number, n, the allowance, three tabs, the frame and the LF
-pub frame-line-length :
+frame-line-length :
     (number n : ℕ) (frame : List ℕ)
     → length (frameLine number n frame) ≡ length (decimal number) + length (decimal n) + 5 + 2 * length frame
 unfolding digits
@@ -247,17 +247,17 @@ frame-line-length number n frame =
       hex-length frame,
     )
 
-pub frame-line-most :
+frame-line-most :
     (number n : ℕ) (frame : List ℕ) → number < 10 ^ 9 → n ≤ 256 → length (frameLine number n frame) ≤ 17 + 2 * length frame
 frame-line-most number n frame h k =
     omega (arith, frame-line-length number n frame, decimal-short number 9 h (omega arith), decimal-short n 3 (omega arith) (omega arith))
 
-pub frame-line-short :
+frame-line-short :
     (number n : ℕ) (frame : List ℕ) → number < 10 ^ 9 → n ≤ 256 → length frame ≡ frameBytes n
     → length (frameLine number n frame) ≤ 16401
 frame-line-short number n frame h k e = omega (arith, frame-line-most number n frame h k, frame-bytes-most n k, e)
 
-pub refused-line-short : (number r : ℕ) → number < 10 ^ 9 → r ≤ 10 → length (refusedLine number r) ≤ 15
+refused-line-short : (number r : ℕ) → number < 10 ^ 9 → r ≤ 10 → length (refusedLine number r) ≤ 15
 refused-line-short number r h k =
     omega (
       arith,
@@ -268,7 +268,7 @@ refused-line-short number r h k =
     )
 
 -- the numbers of the refusals have two digits at most
-pub blank-most : (n : ℕ) (message : List ℕ) → encodeNumber smallCode n message (blankFrame n) ≤ 10
+blank-most : (n : ℕ) (message : List ℕ) → encodeNumber smallCode n message (blankFrame n) ≤ 10
 unfolding allIn
 blank-most n message =
     one-of-range 0 10 (encodeNumber smallCode n message (blankFrame n)) (0 ∷ 1 ∷ 2 ∷ 5 ∷ 10 ∷ []) refl (blank-refusals n message) .1
@@ -277,14 +277,19 @@ blank-most n message =
 pub accepted-most : (n : ℕ) (message out : List ℕ) → encodeNumber smallCode n message out ≡ 0 → n ≤ 256
 accepted-most n message out z = round-trips smallCode sound-small .accepts n message out .0 z .0 .upTo
 
-line-length :
-    (k number n : ℕ) (message : List ℕ) → number < 10 ^ 9 → length (dataText k (someData number n message)) ≤ 16401
-line-length k number n message h =
+record-length : (number n : ℕ) (message : List ℕ) → number < 10 ^ 9 → length (givenText number n message) ≤ 16401
+record-length number n message h =
     let r : ℕ = encodeNumber smallCode n message (blankFrame n) in
     let frame : List ℕ = encodeOutput smallCode n message (blankFrame n) in
     at-either (λ t. length t ≤ 16401) r (frameLine number n frame) (refusedLine number r)
     (λ z. frame-line-short number n frame h (accepted-most n message (blankFrame n) z) (trip n message (blankFrame n) z .received .0))
     (λ z. omega (arith, refused-line-short number r h (blank-most n message)))
+
+line-length : (k : ℕ) → k < 2 ^ 64 → (l : DataLine) → NumberShort l → length (dataText k l) ≤ 16401
+line-length k h badData s =
+    let few = leb→le (2 ^ 64) (10 ^ 20) tt in
+    omega (arith, length-append (decimal k) (10 ∷ []), decimal-short k 20 (omega (arith, h, few)) (omega arith))
+line-length k h (someData number n message) s = record-length number n message s
 
 pub written : Written
 written = record {
@@ -302,7 +307,7 @@ written = record {
   any-buffer = λ n message out e. (any-number n message out e, any-output n message out e);
   any-length = outside-number;
   one-line = line-one-lf;
-  short = line-length;
+  short = λ k s h. line-length k h (dataOf s) (short-number s);
   room = omega arith;
   allowance = refl;
 }

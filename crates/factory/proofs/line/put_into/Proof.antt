@@ -3,8 +3,8 @@
 use mathlib.Core.Path.{ap}
 use Prim.Native.Nat.{_-_}
 use borrow.Author.Needs.{needs}
-use Rattle.factory.specs.Room.{recordText}
-use Rattle.lines.proofs.StateLaws.{lays-as}
+use Rattle.text.proofs.LaidLaws.{lays-as}
+use Rattle.textrules.specs.Factory.{givenText}
 use Rattle.text.proofs.ReadLaws.{hex-part}
 use Rattle.factory.proofs.line.put_into.Statement.{statement}
 use Rattle.factory.proofs.line.put_into.Tie as tie
@@ -46,7 +46,7 @@ same-length-3 : tie.Need-same-length-3
 same-length-3 c = search needs
 
 returns : tie.Need-returns
-returns c = lays-as _ _ _ _ _ _ (ap (recordText (c .before .before .before .before .before .before .before .before .before .before .before .before .before .before .before .before .before .before .args .number) (c .before .before .before .before .before .before .before .before .before .before .before .before .before .before .before .before .before .before .args .n)) (hex-part (c .before .before .before .before .before .before .before .before .before .before .before .before .before .before .before .before .before .before .args .digits .now) _ _ (c .before .before .before .before .before .before .before .before .before .before .before .before .bytes-of .result) (c .before .before .before .before .before .before .before .before .before .before .before .before .bytes-of .ensures .0) (c .before .before .before .before .before .before .before .before .before .before .before .before .bytes-of .ensures .1))) (c .before .before .before .before .put-encoded .ensures)
+returns c = lays-as _ _ _ _ _ _ (ap (givenText (c .before .before .before .before .before .before .before .before .before .before .before .before .before .before .before .before .before .before .args .number) (c .before .before .before .before .before .before .before .before .before .before .before .before .before .before .before .before .before .before .args .n)) (hex-part (c .before .before .before .before .before .before .before .before .before .before .before .before .before .before .before .before .before .before .args .digits .now) _ _ (c .before .before .before .before .before .before .before .before .before .before .before .before .bytes-of .result) (c .before .before .before .before .before .before .before .before .before .before .before .before .bytes-of .ensures .0) (c .before .before .before .before .before .before .before .before .before .before .before .before .bytes-of .ensures .1))) (c .before .before .before .before .put-encoded .ensures)
 
 pub put-into-spec : {M : Type 1} → statement M
 put-into-spec =

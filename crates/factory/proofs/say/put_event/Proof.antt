@@ -5,7 +5,8 @@ use Prim.Native.Nat.{_-_}
 use native.Mathlib.Omega.{arith}
 use lib.ListN.{length}
 use borrow.Author.Needs.{needs}
-use Rattle.lines.proofs.StateLaws.{lays-as, says-as, lays-nothing, part-short}
+use Rattle.text.proofs.LaidLaws.{lays-as, lays-nothing}
+use Rattle.lines.proofs.StateLaws.{says-as, part-short}
 use Rattle.lines.specs.declared.state.Event.the-variants.{Nothing, Header, Line, Long}
 use Rattle.textrules.specs.Factory.{longestData, dataText, dataOf, writer}
 use Rattle.textrules.specs.Text.{Text}

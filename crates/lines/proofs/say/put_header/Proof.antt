@@ -2,7 +2,8 @@
 -- Assumes nothing.
 use Prim.Native.Nat.{_-_}
 use borrow.Author.Needs.{needs}
-use Rattle.lines.proofs.StateLaws.{lays-as, picked}
+use Rattle.text.proofs.LaidLaws.{lays-as}
+use Rattle.lines.proofs.StateLaws.{picked}
 use Rattle.textrules.specs.Programs.{badHeader}
 use Rattle.lines.proofs.say.put_header.Statement.{statement}
 use Rattle.lines.proofs.say.put_header.Tie as tie

@@ -1,20 +1,20 @@
--- `repair::report_all` meets its contract.
+-- `write::write_dump` meets its contract.
 -- Assumes nothing.
 use mathlib.Core.Path.{ap}
 use Prim.Native.Nat.{_-_}
 use borrow.Author.Needs.{needs}
-use Rattle.lines.proofs.StateLaws.{lays-within}
+use Rattle.text.proofs.LaidLaws.{lays-within}
 use Rattle.input.proofs.StepLaws.{step-leaves}
 use Rattle.input.specs.declared.Input.{Input}
 use Rattle.lines.proofs.HandedLaws.{some-none, some-then}
 use Rattle.lines.specs.Calls.{LeavesSome}
 use Rattle.lines.specs.Stream.{atStart, keeping}
-use Rattle.textrules.specs.Dump.{header, repair}
-use Rattle.repair.proofs.report_all.Statement.{statement}
-use Rattle.repair.proofs.report_all.Tie as tie
+use Rattle.textrules.specs.Factory.{dataHeader, writer}
+use Rattle.write.proofs.write_dump.Statement.{statement}
+use Rattle.write.proofs.write_dump.Tie as tie
 
 abbrev Inv-loop : tie.InvT-loop
-Inv-loop line₀ piece₀ out₀ current₀ turns₀ t12 line piece out current turns = LeavesSome header atStart line₀ (current .state) line
+Inv-loop line₀ piece₀ out₀ current₀ turns₀ t12 line piece out current turns = LeavesSome dataHeader atStart line₀ (current .state) line
 
 abbrev μ-loop : tie.MeasureT-loop
 μ-loop line₀ piece₀ out₀ current₀ turns₀ t12 line piece out current turns = turns
@@ -23,7 +23,7 @@ begin-requires : tie.Need-begin-requires Inv-loop μ-loop
 begin-requires c κs = search needs
 
 loop-holds : tie.Need-loop-holds Inv-loop μ-loop
-loop-holds c = some-none header atStart (c .before .args .line .now) (keeping (c .begin .result .state) (c .before .args .line .now)) (ap (λ (i : Input). keeping (i .state) (c .before .args .line .now)) (c .begin .ensures))
+loop-holds c = some-none dataHeader atStart (c .before .args .line .now) (keeping (c .begin .result .state) (c .before .args .line .now)) (ap (λ (i : Input). keeping (i .state) (c .before .args .line .now)) (c .begin .ensures))
 
 slice-aggregate-advance : tie.Need-slice-aggregate-advance Inv-loop μ-loop
 slice-aggregate-advance c = search needs
@@ -47,7 +47,7 @@ write-all-requires : tie.Need-write-all-requires Inv-loop μ-loop
 write-all-requires c κs = search needs
 
 returns : tie.Need-returns Inv-loop μ-loop
-returns c = some-then header _ _ _ _ _ _ (c .before .before .before .before .before .before .before .before .before .before .before .before .before .before .loop .inv) (step-leaves repair (c .before .before .before .before .before .before .before .before .before .before .before .before .before .before .loop .current) _ _ (c .before .before .before .before .before .before .before .before .before .advance .result) _ _ (c .before .before .before .before .before .before .before .before .before .advance .ensures))
+returns c = some-then dataHeader _ _ _ _ _ _ (c .before .before .before .before .before .before .before .before .before .before .before .before .before .before .loop .inv) (step-leaves writer (c .before .before .before .before .before .before .before .before .before .before .before .before .before .before .loop .current) _ _ (c .before .before .before .before .before .before .before .before .before .advance .result) _ _ (c .before .before .before .before .before .before .before .before .before .advance .ensures))
 
 sub-turns : tie.Need-sub-turns Inv-loop μ-loop
 sub-turns c = search needs
@@ -56,13 +56,13 @@ loop-less : tie.Need-loop-less Inv-loop μ-loop
 loop-less c = search needs
 
 loop-again : tie.Need-loop-again Inv-loop μ-loop
-loop-again c = some-then header _ _ _ _ _ _ (c .before .before .before .before .before .before .before .before .before .before .before .before .before .before .before .loop .inv) (step-leaves repair (c .before .before .before .before .before .before .before .before .before .before .before .before .before .before .before .loop .current) _ _ (c .before .before .before .before .before .before .before .before .before .before .advance .result) _ _ (c .before .before .before .before .before .before .before .before .before .before .advance .ensures))
+loop-again c = some-then dataHeader _ _ _ _ _ _ (c .before .before .before .before .before .before .before .before .before .before .before .before .before .before .before .loop .inv) (step-leaves writer (c .before .before .before .before .before .before .before .before .before .before .before .before .before .before .before .loop .current) _ _ (c .before .before .before .before .before .before .before .before .before .before .advance .result) _ _ (c .before .before .before .before .before .before .before .before .before .before .advance .ensures))
 
 returns-2 : tie.Need-returns-2 Inv-loop μ-loop
 returns-2 c = search needs
 
-pub report-all-spec : {M : Type 1} → statement M
-report-all-spec =
+pub write-dump-spec : {M : Type 1} → statement M
+write-dump-spec =
     tie.close
     (tie.spec
     Inv-loop
