@@ -37,7 +37,10 @@ pub fn check(sides: &Sides, maker: &mut Maker, score: &mut Score) {
     let (job, input) = (maker.job, input(maker));
     let (program, said) = best(|| sides.program.run(&input, Style::File));
     let (second, expected) = best(|| (job.of_all)(sides.code, &input));
-    let name = format!("{} records at n = {}, {} wrong bits in each", grouped(RECORDS as u64), N, job.wrong_bits);
+    let mut name = format!("{} records at n = {}", grouped(RECORDS as u64), N);
+    if job.wrong_bits > 0 {
+        name += &format!(", {} wrong bits in each", job.wrong_bits);
+    }
     score.count(&job.check(&name), said.fault(&expected), &format!("{} bytes", grouped(input.len() as u64)));
     let [ours, theirs] = [program, second]
         .map(|seconds: f64| format!("{:.3} s ({:.0} us a record)", seconds, seconds * 1e6 / RECORDS as f64));
