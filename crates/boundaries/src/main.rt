@@ -49,8 +49,8 @@ fn decode_calls() {
     decode_call(18, 2, 6, 0, 0);
     decode_call(18, 0, 6, 54, 54);
     decode_call(18, 1, 6, 54, 54);
-    decode_call(18, 32, 6, 54, 54);
-    decode_call(18, 33, 6, 54, 54);
+    decode_call(18, 200, 6, 54, 54);
+    decode_call(18, 201, 6, 54, 54);
     decode_call(18, HUGE, 6, 54, 54);
     decode_call(256, 2, 6, 8192, 8192);
     decode_call(256, 2, 6, 8191, 8192);

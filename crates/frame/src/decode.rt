@@ -19,7 +19,7 @@ ghost use Rattle.laws.specs.Turns.{Copied};
 ghost use Rattle.frame.specs.Calls.{Repairs, Decodes};
 ghost use Rattle.frame.specs.Said.{uncounted, isFailure};
 
-const MOST_ALLOWED: usize = 32;
+const MOST_ALLOWED: usize = 200;
 
 pub enum Ending {
     Clean,

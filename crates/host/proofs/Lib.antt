@@ -1,4 +1,4 @@
 -- The demands, of what C gets
 pub mod Demands
--- Laws of packing
-pub mod PackLaws
+-- Laws of what decode says, in the code's struct and as C gets it
+pub mod FiguresLaws

@@ -1,2 +1,3 @@
 -- What the exported functions owe.
+pub mod Figured
 pub mod Calls

@@ -1,10 +1,15 @@
 // The three functions of include/gazenohyri.h. They require nothing but what the header says that a caller owes.
-use crate::pack::pack_decoded;
+use crate::figures::figures_of;
+use crate::figures::put_figures;
 use frame::decode::decode;
 use frame::encode::encode;
 use frame::read::read;
+use word::numbers::BAD_BLOCK_LENGTH;
 ghost use Rattle.frame.specs.Calls.{Encodes, Reads};
-ghost use Rattle.host.specs.Calls.{DecodesPacked};
+ghost use Rattle.host.specs.Calls.{HostDecodes};
+
+// The length of the block that C lends to decode.
+const BLOCK_BYTES: usize = 20;
 
 #[no_mangle]
 pub extern "C" fn gazenohyri_encode(n: usize, message: &[u8], frame: &mut [u8]) -> u32
@@ -19,10 +24,16 @@ pub extern "C" fn gazenohyri_decode(
     allowance: usize,
     received: &[u8],
     frame: &mut [u8],
-) -> u64
-    ensures { λ r. ⌜ DecodesPacked n allowance (now (received .entry)) (now (frame .entry)) r (now (frame .exit)) ⌝ }
+    block: &mut [u8],
+) -> u32
+    ensures { λ r. ⌜ HostDecodes n allowance (now (received .entry)) (now (frame .entry)) (now (block .entry)) r (now (frame .exit)) (now (block .exit)) ⌝ }
 {
-    pack_decoded(decode(n, allowance, received, frame))
+    if block.len() != BLOCK_BYTES {
+        return BAD_BLOCK_LENGTH;
+    }
+    let f = figures_of(decode(n, allowance, received, frame));
+    put_figures(f, block);
+    f.number
 }
 
 #[no_mangle]

@@ -1,3 +1,3 @@
 // What C calls.
 pub mod exports;
-mod pack;
+mod figures;

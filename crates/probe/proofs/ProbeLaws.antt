@@ -1,52 +1,23 @@
--- A word's places lie below its length, so they have room in the number; a row copied where it fits; checks that are refused.
+-- A row copied where it fits; checks that are refused; what is said of a word in a block.
 -- Assumes nothing.
 use mathlib.Core.Path.{_≡_, refl, ap, sym, _∙_}
 use mathlib.Core.Logic.{_≢_}
 use mathlib.Core.Bool.{true, false}
-use mathlib.Core.List.{List, [], _∷_, _++_}
-use mathlib.Core.Option.{Option, some, none}
+use mathlib.Core.List.{List, _++_}
 use Prim.Native.Nat.{ℕ, _≤_, _<_}
-use native.Mathlib.Omega.{arith}
 use lib.Dec.{eqb}
 use lib.ListN.{length, take, drop}
 use borrow.Author.Tests.{eq-eqb, ne-eqb, le-leb, lt-leb}
-use Rattle.algebra.specs.Words.{Word}
 use Rattle.rules.specs.Codes.{smallCode}
-use Rattle.rules.specs.Words.{answer, checks}
-use Rattle.rules.specs.Bits.{wordOf}
-use Rattle.rules.specs.Numbers.{pick, outside, wordRefused, answered, wordRefusal, wordSaid}
-use Rattle.rules.proofs.Laws.SmallCode.{sound-small}
-use Rattle.rules.proofs.Laws.NumberLaws.{word-accepts, at-either}
+use Rattle.rules.specs.Numbers.{pick, outside, wordSaid, wordOutput}
+use Rattle.rules.specs.Block.{inBytes}
 use Rattle.laws.specs.Located.{checksEnd, located}
 use Rattle.laws.proofs.CopyLaws.{copied-whole}
-use Rattle.laws.proofs.PlaceLaws.{Rises, located-rises}
 use Rattle.word.specs.declared.locate.Answer.{Answer}
 use Rattle.word.specs.declared.decode.Said.{Said}
 use Rattle.word.specs.Said.{answerOf, saidOf}
-use Rattle.probe.specs.Calls.{packedAnswer, packedLocated, SmallAnswer, SmallSaid}
-
-small-answer : (n : ℕ) (a : Option (List ℕ)) → n ≤ 256 → Rises n a → SmallAnswer (answerOf a)
-small-answer n (some []) b f = tt
-small-answer n (some (p ∷ [])) b f = omega (arith, f .1)
-small-answer n (some (p ∷ q ∷ ps)) b f = (omega (arith, f .1), omega (arith, f .2 .1))
-small-answer n none b f = tt
-
-pub small-located : (n c : ℕ) (r : Answer) → 18 ≤ n → n ≤ 256 → r ≡ answerOf (located smallCode n c) → SmallAnswer r
-small-located n c r lo hi is = rw is (small-answer n (located smallCode n c) hi (located-rises smallCode sound-small n lo c))
-
-small-word : (n : ℕ) (received output : List ℕ) → SmallSaid (saidOf (wordSaid smallCode n received output))
-unfolding wordSaid answer located
-small-word n received output =
-    at-either (λ d. SmallSaid (saidOf d)) (wordRefusal smallCode n received output) (answered (answer smallCode n (wordOf n received 0)))
-    (wordRefused (wordRefusal smallCode n received output))
-    (λ z.
-    let k = word-accepts smallCode n received output .0 z in
-    let w : Word = wordOf n received 0 in
-    small-answer n (answer smallCode n w) (k .upTo) (located-rises smallCode sound-small n (k .from) (checks smallCode n w)))
-    (λ z. tt)
-
-pub small-said : (n : ℕ) (received output : List ℕ) (r : Said) → r ≡ saidOf (wordSaid smallCode n received output) → SmallSaid r
-small-said n received output r is = rw is (small-word n received output)
+use Rattle.word.specs.declared.decode.Said.the-variants.{Refused, Answered}
+use Rattle.probe.specs.Calls.{answerNumber, answerPlaces, saidNumber, saidPlaces, saidLocated, InBlock, ProbesWord, ProbesChecks}
 
 -- the copied row, or what was lent where it is not as long
 pub row-copied :
@@ -64,13 +35,57 @@ row-left p b t is l =
 
 -- ---- the answer to checks
 
-pub locates-1 : (n c : ℕ) → outside smallCode n ≡ true → 1 ≡ packedLocated n c
-locates-1 n c h = rw h refl
+pub located-1 : (n c : ℕ) → outside smallCode n ≡ true → Refused 1 ≡ saidLocated n c
+located-1 n c h = rw h refl
 
-pub locates-2 : (n c : ℕ) → outside smallCode n ≡ false → checksEnd smallCode ≤ c → 2 ≡ packedLocated n c
-locates-2 n c h k = rw (h, le-leb (checksEnd smallCode) c k) refl
+pub located-2 : (n c : ℕ) → outside smallCode n ≡ false → checksEnd smallCode ≤ c → Refused 2 ≡ saidLocated n c
+located-2 n c h k = rw (h, le-leb (checksEnd smallCode) c k) refl
 
-pub locates-packed :
-    (n c r : ℕ) (a : Answer) → outside smallCode n ≡ false → c < checksEnd smallCode → a ≡ answerOf (located smallCode n c) → r ≡ packedAnswer a
-    → r ≡ packedLocated n c
-locates-packed n c r a h k is e = rw (h, lt-leb (checksEnd smallCode) c k) (e ∙ ap packedAnswer is)
+pub located-answer :
+    (n c : ℕ) (a : Answer) → outside smallCode n ≡ false → c < checksEnd smallCode → a ≡ answerOf (located smallCode n c)
+    → Answered a ≡ saidLocated n c
+located-answer n c a h k is = rw (h, lt-leb (checksEnd smallCode) c k) (ap Answered is)
+
+-- ---- what is said, in a block
+
+-- by its case
+pub answer-put :
+    (a b : Answer) (r : ℕ) (s : List ℕ) → a ≡ b → (r ≡ answerNumber b) × (s ≡ inBytes (answerPlaces b))
+    → (r ≡ answerNumber a) × (s ≡ inBytes (answerPlaces a))
+answer-put a b r s is h = (h .0 ∙ ap answerNumber (sym is), h .1 ∙ ap (λ x. inBytes (answerPlaces x)) (sym is))
+
+pub said-put :
+    (a b : Said) (r : ℕ) (s : List ℕ) → a ≡ b → (r ≡ saidNumber b) × (s ≡ inBytes (saidPlaces b))
+    → (r ≡ saidNumber a) × (s ≡ inBytes (saidPlaces a))
+said-put a b r s is h = (h .0 ∙ ap saidNumber (sym is), h .1 ∙ ap (λ x. inBytes (saidPlaces x)) (sym is))
+
+-- by the length of the block
+of-length :
+    (said d : Said) (lent left : List ℕ) (r : ℕ) → length lent ≡ 12 → d ≡ said → (r ≡ saidNumber d) × (left ≡ inBytes (saidPlaces d))
+    → InBlock said lent r left
+of-length said d lent left r long is h = let k = said-put said d r left (sym is) h in rw (eq-eqb (length lent) 12 long) k
+
+other-length : (said : Said) (lent : List ℕ) → length lent ≢ 12 → InBlock said lent 11 lent
+other-length said lent h = rw (ne-eqb (length lent) 12 h) (refl, refl)
+
+module _ (n : ℕ) (received output lent : List ℕ) where
+  abbrev said : Said
+  said = saidOf (wordSaid smallCode n received output)
+
+  pub word-refused : length lent ≢ 12 → ProbesWord n received output lent 11 output lent
+  word-refused h = (other-length said lent h, rw (ne-eqb (length lent) 12 h) refl)
+
+  pub word-put :
+      (d : Said) (r : ℕ) (exit left : List ℕ) → length lent ≡ 12
+      → (d ≡ saidOf (wordSaid smallCode n received output)) × (exit ≡ wordOutput smallCode n received output)
+      → (r ≡ saidNumber d) × (left ≡ inBytes (saidPlaces d)) → ProbesWord n received output lent r exit left
+  word-put d r exit left long e h = (of-length said d lent left r long (e .0) h, rw (eq-eqb (length lent) 12 long) (e .1))
+
+module _ (n checks : ℕ) (lent : List ℕ) where
+  pub checks-refused : length lent ≢ 12 → ProbesChecks n checks lent 11 lent
+  checks-refused h = other-length (saidLocated n checks) lent h
+
+  pub checks-put :
+      (d : Said) (r : ℕ) (left : List ℕ) → length lent ≡ 12 → d ≡ saidLocated n checks
+      → (r ≡ saidNumber d) × (left ≡ inBytes (saidPlaces d)) → ProbesChecks n checks lent r left
+  checks-put d r left long is h = of-length (saidLocated n checks) d lent left r long is h

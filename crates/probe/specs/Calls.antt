@@ -1,11 +1,12 @@
 -- The contracts of the tests' exports, each as one statement about a call.
 use mathlib.Core.Path.{_≡_}
-use mathlib.Core.List.{List}
-use Prim.Native.Nat.{ℕ, _+_, _*_, _<_}
+use mathlib.Core.List.{List, [], _∷_}
+use Prim.Native.Nat.{ℕ}
 use lib.Dec.{eqb, leb}
 use lib.ListN.{length}
 use Rattle.rules.specs.Codes.{smallCode}
-use Rattle.rules.specs.Numbers.{pick, outside, wordSaid, wordOutput, rowPart}
+use Rattle.rules.specs.Numbers.{pick, outside, notLong, wordSaid, wordOutput, rowPart}
+use Rattle.rules.specs.Block.{inBytes}
 use Rattle.laws.specs.Located.{checksEnd, located}
 use Rattle.word.specs.declared.locate.Answer.{Answer}
 use Rattle.word.specs.declared.locate.Answer.the-variants.{Codeword, OnePlace, TwoPlaces, Beyond}
@@ -13,35 +14,48 @@ use Rattle.word.specs.declared.decode.Said.{Said}
 use Rattle.word.specs.declared.decode.Said.the-variants.{Refused, Answered}
 use Rattle.word.specs.Said.{answerOf, saidOf}
 
--- bits 0..7 the number, 8..15 how many places were changed, 16..31 the first, 32..47 the second
-abbrev pub packedAnswer : Answer → ℕ
-packedAnswer Codeword = 0
-packedAnswer (OnePlace p) = 256 + p * 65536
-packedAnswer (TwoPlaces p q) = 512 + p * 65536 + q * 4294967296
-packedAnswer Beyond = 9
+-- the number of an answer
+abbrev pub answerNumber : Answer → ℕ
+answerNumber Codeword = 0
+answerNumber (OnePlace p) = 0
+answerNumber (TwoPlaces p q) = 0
+answerNumber Beyond = 9
 
-abbrev pub packedWord : Said → ℕ
-packedWord (Refused r) = r
-packedWord (Answered a) = packedAnswer a
+-- how many places were changed, the first and the second
+abbrev pub answerPlaces : Answer → List ℕ
+answerPlaces Codeword = 0 ∷ 0 ∷ 0 ∷ []
+answerPlaces (OnePlace p) = 1 ∷ p ∷ 0 ∷ []
+answerPlaces (TwoPlaces p q) = 2 ∷ p ∷ q ∷ []
+answerPlaces Beyond = 0 ∷ 0 ∷ 0 ∷ []
+
+abbrev pub saidNumber : Said → ℕ
+saidNumber (Refused r) = r
+saidNumber (Answered a) = answerNumber a
+
+abbrev pub saidPlaces : Said → List ℕ
+saidPlaces (Refused r) = 0 ∷ 0 ∷ 0 ∷ []
+saidPlaces (Answered a) = answerPlaces a
 
 -- the answer to checks alone; 1 for an n that no word has, 2 for what are no checks
-abbrev pub packedLocated : ℕ → ℕ → ℕ
-packedLocated n c = pick (outside smallCode n) 1 (pick (leb (checksEnd smallCode) c) 2 (packedAnswer (answerOf (located smallCode n c))))
+abbrev pub saidLocated : ℕ → ℕ → Said
+saidLocated n c = pick (outside smallCode n) (Refused 1) (pick (leb (checksEnd smallCode) c) (Refused 2) (Answered (answerOf (located smallCode n c))))
 
--- the places have room
-abbrev pub SmallAnswer : Answer → Type 0
-SmallAnswer Codeword = Unit {0}
-SmallAnswer (OnePlace p) = p < 65536
-SmallAnswer (TwoPlaces p q) = (p < 65536) × (q < 65536)
-SmallAnswer Beyond = Unit {0}
+-- the length of a block
+abbrev pub placesBytes : ℕ
+placesBytes = 12
 
-abbrev pub SmallSaid : Said → Type 0
-SmallSaid (Refused r) = Unit {0}
-SmallSaid (Answered a) = SmallAnswer a
+-- what is returned and left in the block; where that has another length, 11, and the block as it was
+abbrev pub InBlock : Said → List ℕ → ℕ → List ℕ → Type 0
+InBlock said lent r left =
+    (r ≡ pick (notLong lent placesBytes) 11 (saidNumber said)) × (left ≡ pick (notLong lent placesBytes) lent (inBytes (saidPlaces said)))
 
-abbrev pub DecodesWordPacked : ℕ → List ℕ → List ℕ → ℕ → List ℕ → Type 0
-DecodesWordPacked n received output r exit =
-    (r ≡ packedWord (saidOf (wordSaid smallCode n received output))) × (exit ≡ wordOutput smallCode n received output)
+abbrev pub ProbesWord : ℕ → List ℕ → List ℕ → List ℕ → ℕ → List ℕ → List ℕ → Type 0
+ProbesWord n received output lent r exit left =
+    InBlock (saidOf (wordSaid smallCode n received output)) lent r left
+    × (exit ≡ pick (notLong lent placesBytes) output (wordOutput smallCode n received output))
+
+abbrev pub ProbesChecks : ℕ → ℕ → List ℕ → ℕ → List ℕ → Type 0
+ProbesChecks n checks lent r left = InBlock (saidLocated n checks) lent r left
 
 abbrev pub CopiesRow : ℕ → List ℕ → ℕ → List ℕ → ℕ → List ℕ → Type 0
 CopiesRow n frame i part r exit =

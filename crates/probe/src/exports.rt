@@ -1,20 +1,19 @@
 // What the tests call from C and Rust beside the three functions of the host.
-use crate::pack::pack_answer;
-use crate::pack::pack_said;
+use crate::said::locate_said;
+use crate::said::put_said;
 use field::logs::exponent;
 use field::marks::ORDER;
 use field::marks::mark_at;
 use field::marks::power_part;
 use frame::row::row;
 use word::decode::decode_word;
-use word::locate::locate;
-use word::sizes::outside;
+use word::numbers::BAD_BLOCK_LENGTH;
 ghost use mathlib.Core.Path.{_≡_};
 ghost use Rattle.rules.specs.Field as rules;
-ghost use Rattle.probe.specs.Calls.{DecodesWordPacked, CopiesRow, packedLocated};
+ghost use Rattle.probe.specs.Calls.{ProbesWord, CopiesRow, ProbesChecks};
 
-// All checks lie below it.
-const CHECKS_END: u32 = 131072;
+// The length of a block with three numbers: how many places were changed, the first and the second.
+const PLACES_BYTES: usize = 12;
 
 #[no_mangle]
 pub extern "C" fn probe_power(e: usize) -> u8
@@ -32,12 +31,14 @@ pub extern "C" fn probe_logarithm(x: u8) -> usize
     exponent(&logs, x as usize)
 }
 
-// Bits 0..7 the number, 8..15 how many places were changed, 16..31 the first, 32..47 the second.
 #[no_mangle]
-pub extern "C" fn probe_word(n: usize, received: &[u8], word: &mut [u8]) -> u64
-    ensures { λ r. ⌜ DecodesWordPacked n (now (received .entry)) (now (word .entry)) r (now (word .exit)) ⌝ }
+pub extern "C" fn probe_word(n: usize, received: &[u8], word: &mut [u8], block: &mut [u8]) -> u32
+    ensures { λ r. ⌜ ProbesWord n (now (received .entry)) (now (word .entry)) (now (block .entry)) r (now (word .exit)) (now (block .exit)) ⌝ }
 {
-    pack_said(decode_word(n, received, word))
+    if block.len() != PLACES_BYTES {
+        return BAD_BLOCK_LENGTH;
+    }
+    put_said(decode_word(n, received, word), block)
 }
 
 // The length of row i's part; its bytes, where `part` is just as long.
@@ -52,16 +53,12 @@ pub extern "C" fn probe_row(n: usize, frame: &[u8], i: usize, part: &mut [u8]) -
     bytes.len()
 }
 
-// The answer to checks, in the same number; 1 for an n that no word has, 2 for what are no checks.
 #[no_mangle]
-pub extern "C" fn probe_locate(n: usize, checks: u32) -> u64
-    ensures { λ r. ⌜ r ≡ packedLocated n checks ⌝ }
+pub extern "C" fn probe_locate(n: usize, checks: u32, block: &mut [u8]) -> u32
+    ensures { λ r. ⌜ ProbesChecks n checks (now (block .entry)) r (now (block .exit)) ⌝ }
 {
-    if outside(n) {
-        return 1;
+    if block.len() != PLACES_BYTES {
+        return BAD_BLOCK_LENGTH;
     }
-    if CHECKS_END <= checks {
-        return 2;
-    }
-    pack_answer(locate(n, checks))
+    put_said(locate_said(n, checks), block)
 }

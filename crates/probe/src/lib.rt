@@ -1,3 +1,3 @@
 // For the tests alone, and no part of what is shipped: the single word, the row and the field, for C.
 pub mod exports;
-mod pack;
+mod said;

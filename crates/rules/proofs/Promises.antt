@@ -13,7 +13,7 @@ pub mod Entries
 pub mod Erased
 pub mod Determined
 pub mod Refusals
-pub mod Packing
+pub mod Blocks
 -- Demand 3, and where it ends
 pub mod RepairFrames
 pub mod Repair

@@ -6,5 +6,5 @@ pub mod Frames
 pub mod Bits
 pub mod Passes
 pub mod Numbers
-pub mod Packed
+pub mod Block
 pub mod Damage

@@ -23,7 +23,7 @@ outside code n = not (leb (code .shortest) n && leb n (code .longest))
 
 -- the greatest allowance
 abbrev pub mostAllowed : ℕ
-mostAllowed = 32
+mostAllowed = 200
 
 -- number 4: the allowance is out of range
 abbrev pub notAllowed : ℕ → Bool

@@ -18,3 +18,6 @@ pub const STUCK: u32 = 7;
 pub const SPENT: u32 = 8;
 
 pub const ERASED: u32 = 10;
+
+// The C host looks for it ahead of all others.
+pub const BAD_BLOCK_LENGTH: u32 = 11;

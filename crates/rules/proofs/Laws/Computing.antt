@@ -12,8 +12,9 @@ use Rattle.rules.specs.Frames.{row, transposed, badRows, badColumns, isF
 use Rattle.rules.specs.Bits.{bitAt, wordOf, frameOf, packed, wordBytes, bytesOf, spareOnes}
 use Rattle.rules.specs.Passes.{passRows, passColumns, pass, differences, passesFrom, decoded}
 use Rattle.rules.specs.Numbers.{encodeNumber, encodeOutput, decodeRefusal, decodeSaid, decodeOutput, wordRefusal, wordSaid, wordOutput}
+use Rattle.rules.specs.Block.{inBytes, block, hostDecode}
 use Rattle.rules.specs.Damage.{spoilt}
 
 unfoldable pub computing : Unit {0}
-unfolding _⊕_ tabFrom tab ones sum allBelow bit _⊻_ xor shift register descend binary systematic poly g remainder checks isCodeword encodeWord values exactly within answer isIn changed mend row transposed badRows badColumns isFrame isErased corner rowsFirst bitAt wordOf frameOf packed wordBytes bytesOf spareOnes passRows passColumns pass differences passesFrom decoded encodeNumber encodeOutput decodeRefusal decodeSaid decodeOutput wordRefusal wordSaid wordOutput spoilt
+unfolding _⊕_ tabFrom tab ones sum allBelow bit _⊻_ xor shift register descend binary systematic poly g remainder checks isCodeword encodeWord values exactly within answer isIn changed mend row transposed badRows badColumns isFrame isErased corner rowsFirst bitAt wordOf frameOf packed wordBytes bytesOf spareOnes passRows passColumns pass differences passesFrom decoded encodeNumber encodeOutput decodeRefusal decodeSaid decodeOutput wordRefusal wordSaid wordOutput inBytes block hostDecode spoilt
 computing = tt

@@ -17,6 +17,7 @@ use Rattle.rules.specs.Frames.{row}
 use Rattle.rules.specs.Bits.{rowBytes, wordOf, frameOf, wordBytes}
 use Rattle.rules.specs.Passes.{clean, repaired, stuck, spent, Outcome, decoded}
 use Rattle.rules.specs.Numbers.{frameBytes, encodeNumber, encodeOutput, Decoded, refused, erased, ended, decodeRefusal, decodeSaid, decodeOutput, WordSaid, answered, number, wordSaid, wordNumber, wordOutput, pick, told, handedOut, undecoded, wordRefused, wordRefusal}
+use Rattle.rules.specs.Block.{HostAnswer, hostDecode}
 use Rattle.rules.proofs.Laws.SmallCode.{sound-small}
 use Rattle.rules.proofs.Laws.Shape.{wordOf-length}
 use Rattle.rules.proofs.Laws.EncodeWordLaws.{codeword-unique}
@@ -243,7 +244,7 @@ Ranges =
     -- n: one too small, one too great, the smallest, the greatest
     refusal 17 2 51 51 ∷ refusal 257 2 8481 8481 ∷ refusal 18 2 54 54 ∷ refusal 256 2 8192 8192
     -- the allowance, likewise
-    ∷ refusal 18 0 54 54 ∷ refusal 18 33 54 54 ∷ refusal 18 1 54 54 ∷ refusal 18 32 54 54
+    ∷ refusal 18 0 54 54 ∷ refusal 18 201 54 54 ∷ refusal 18 1 54 54 ∷ refusal 18 200 54 54
     -- the received bytes one too few and one too many, and the lent ones
     ∷ refusal 18 2 53 54 ∷ refusal 18 2 55 54 ∷ refusal 18 2 54 53 ∷ refusal 18 2 54 55 ∷ []
     ≡ 1 ∷ 1 ∷ 0 ∷ 0 ∷ 4 ∷ 4 ∷ 0 ∷ 0 ∷ 2 ∷ 2 ∷ 3 ∷ 3 ∷ []
@@ -251,6 +252,30 @@ Ranges =
 pub ranges : Ranges
 unfolding computing nines refusal
 ranges = refl
+
+-- ---- What C gets: n, allowance, received bytes; every lent block is full of nines too
+
+unfoldable pub forC : ℕ → ℕ → List ℕ → ℕ → HostAnswer
+forC n allowance received long = hostDecode smallCode n allowance received (nines (frameBytes n)) (nines long)
+
+pub record HostItems : Type 0 where
+  -- item C at allowance 1: number 8, 1 pass, 0 bits, 2 rows, 18 columns
+  pub spent :
+      forC 18 1 (all ++ all ++ zeros 48) 20
+      ≡ record {
+        returned = 8;
+        frame = all ++ all ++ zeros 48;
+        block = 8 ∷ 0 ∷ 0 ∷ 0 ∷ 1 ∷ 0 ∷ 0 ∷ 0 ∷ 0 ∷ 0 ∷ 0 ∷ 0 ∷ 2 ∷ 0 ∷ 0 ∷ 0 ∷ 18 ∷ 0 ∷ 0 ∷ 0 ∷ [];
+      }
+  -- a refusal is written into the block, and nothing into the frame
+  pub refused-4 : forC 18 201 (zeros 54) 20 ≡ record { returned = 4; frame = nines 54; block = 4 ∷ zeros 19 }
+  -- a block one byte too short or too long, with an n out of range besides
+  pub short : forC 17 1 (zeros 51) 19 ≡ record { returned = 11; frame = nines 51; block = nines 19 }
+  pub long : forC 17 1 (zeros 51) 21 ≡ record { returned = 11; frame = nines 51; block = nines 21 }
+
+pub host-items : HostItems
+unfolding computing nines forC
+host-items = record { spent = refl; refused-4 = refl; short = refl; long = refl }
 
 -- ---- The codewords of 18 bits
 

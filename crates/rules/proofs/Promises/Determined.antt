@@ -15,7 +15,7 @@ use Rattle.rules.specs.Codes.{Code}
 use Rattle.rules.specs.Frames.{Frame, Square, isFrame}
 use Rattle.rules.specs.Bits.{rowBytes, wordOf, frameOf, bytesOf}
 use Rattle.rules.specs.Passes.{Outcome, decoded}
-use Rattle.rules.specs.Numbers.{frameBytes, dataBytes, refused, told, wordRefused, answered, rowRefused}
+use Rattle.rules.specs.Numbers.{mostAllowed, frameBytes, dataBytes, refused, told, wordRefused, answered, rowRefused}
 use Rattle.rules.proofs.Laws.CodeLaws.{Sound, Mends}
 use Rattle.rules.proofs.Laws.Shape.{transposed-square, wordOf-length}
 use Rattle.rules.proofs.Laws.FrameLaws.{frame-rows, frame-columns, rows-columns-frame}
@@ -125,14 +125,14 @@ read-once code n input output r r′ exit exit′ k k′ =
 
 decode-once : (code : Code) (n allowance : ℕ) (input output : List ℕ) → Once (DecodeRule code n allowance input output)
 decode-once code n allowance input output said said′ exit exit′ k k′ =
-    let X : Type 0 = (1 ≤ allowance) × (allowance ≤ 32) in
+    let X : Type 0 = (1 ≤ allowance) × (allowance ≤ mostAllowed) in
     both-ways ((said ≡ said′) × (exit ≡ exit′)) (k .refusal) (k′ .refusal) e
     (λ z z′.
     let t = k .ends z in
     let u = k′ .ends z′ in
     let later : Reasons = (AllOnes n (frameOf n input), 10) ∷ [] in
     let b = sized code n input (frameBytes n) output (frameBytes n) ((¬ X, 4) ∷ later) (k .refusal) (k .number) z in
-    let a = in-range 1 32 allowance (none-applies (¬ X) 3 later (k .refusal) (b .2) z .0) .0 in
+    let a = in-range 1 mostAllowed allowance (none-applies (¬ X) 3 later (k .refusal) (b .2) z .0) .0 in
     let same : (o : Outcome) → PassRule code n allowance (frameOf n input) o → o ≡ decoded code n allowance (frameOf n input) =
     λ o p. passes-promise code .only n allowance (frameOf n input) o a p in
     let o = same (t .0) (t .1) ∙ sym (same (u .0) (u .1)) in

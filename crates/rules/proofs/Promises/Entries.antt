@@ -16,7 +16,7 @@ use Rattle.rules.specs.Words.{answer, places, isIn, changed, mend}
 use Rattle.rules.specs.Frames.{Frame, isFrame, isErased}
 use Rattle.rules.specs.Bits.{rowBytes, wordOf, frameOf, wordBytes, bytesOf, spareOnes}
 use Rattle.rules.specs.Passes.{Ending, clean, repaired, stuck, spent, Outcome, decoded}
-use Rattle.rules.specs.Numbers.{pick, outside, notAllowed, notLong, frameBytes, dataBytes, RefusalList, first, sizeRefusals, frameFor, encodeNumber, encodeOutput, readNumber, readOutput, refused, erased, undecoded, ended, told, handedOut, decodeRefusal, decodeSaid, decodeOutput, figuresOf, figuresWith, wordRefused, answered, wordRefusal, wordSaid, wordNumber, wordOutput, rowPart, Exit, encode, read, decode, decodeWord}
+use Rattle.rules.specs.Numbers.{pick, outside, mostAllowed, notAllowed, notLong, frameBytes, dataBytes, RefusalList, first, sizeRefusals, frameFor, encodeNumber, encodeOutput, readNumber, readOutput, refused, erased, undecoded, ended, told, handedOut, decodeRefusal, decodeSaid, decodeOutput, figuresOf, figuresWith, wordRefused, answered, wordRefusal, wordSaid, wordNumber, wordOutput, rowPart, Exit, encode, read, decode, decodeWord}
 use Rattle.rules.proofs.Laws.CodeLaws.{Sound, Mends}
 use Rattle.rules.proofs.Laws.Shape.{frameOf-square, wordOf-length}
 use Rattle.rules.proofs.Laws.ErasedLaws.{AllOnes, erased-ones, not-ones}
@@ -142,11 +142,11 @@ decode-given :
 unfolding decodeRefusal
 decode-given code n allowance input output =
     let f : Frame = frameOf n input in
-    let X : Type 0 = (1 ≤ allowance) × (allowance ≤ 32) in
+    let X : Type 0 = (1 ≤ allowance) × (allowance ≤ mostAllowed) in
     sizes-given code n input (frameBytes n) output (frameBytes n) ((notAllowed allowance, 4) ∷ (isErased n f, 10) ∷ [])
     ((¬ X, 4) ∷ (AllOnes n f, 10) ∷ [])
     (λ le.
-    given-not (notAllowed allowance) 4 (pick (isErased n f) 10 0) X ((AllOnes n f, 10) ∷ []) (range-test 1 32 allowance)
+    given-not (notAllowed allowance) 4 (pick (isErased n f) 10 0) X ((AllOnes n f, 10) ∷ []) (range-test 1 mostAllowed allowance)
     (λ a. given-ones n f 10 0 [] refl))
 
 word-given : (code : Code) (n : ℕ) (input output : List ℕ) → Given (wordReasons code n input output) (wordRefusal code n input output)

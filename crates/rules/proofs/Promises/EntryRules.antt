@@ -12,7 +12,7 @@ use Rattle.rules.specs.Words.{Codeword, changed}
 use Rattle.rules.specs.Frames.{Frame, row, Square, transposed, corner}
 use Rattle.rules.specs.Bits.{rowBytes, stride, bitAt, wordOf, frameOf, wordBytes, bytesOf}
 use Rattle.rules.specs.Passes.{Ending, clean, repaired, stuck, spent, Outcome}
-use Rattle.rules.specs.Numbers.{frameBytes, dataBytes, Decoded, refused, erased, ended, WordSaid, wordRefused, answered}
+use Rattle.rules.specs.Numbers.{mostAllowed, frameBytes, dataBytes, Decoded, refused, erased, ended, WordSaid, wordRefused, answered}
 use Rattle.rules.proofs.Laws.ErasedLaws.{AllOnes}
 use Rattle.rules.proofs.Promises.Answers.{Fits}
 use Rattle.rules.proofs.Promises.Passes.{PassRule}
@@ -72,7 +72,7 @@ pub record ReadRule (code : Code) (n : ℕ) (input output : List ℕ) (r : ℕ) 
 -- reason 4: the range of the allowance. Reason 10: the code bits are all ones
 abbrev pub decodeReasons : Code → ℕ → ℕ → List ℕ → List ℕ → Reasons
 decodeReasons code n allowance input output =
-    sizes code n input (frameBytes n) output (frameBytes n) ((¬ ((1 ≤ allowance) × (allowance ≤ 32)), 4) ∷ (AllOnes n (frameOf n input), 10) ∷ [])
+    sizes code n input (frameBytes n) output (frameBytes n) ((¬ ((1 ≤ allowance) × (allowance ≤ mostAllowed)), 4) ∷ (AllOnes n (frameOf n input), 10) ∷ [])
 
 -- the frame of a success; else what was received
 abbrev pub written : ℕ → List ℕ → Ending → Frame → List ℕ

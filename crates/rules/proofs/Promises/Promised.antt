@@ -10,6 +10,7 @@ use Rattle.rules.proofs.Promises.RoundTrip.{RoundTrips, round-trips}
 use Rattle.rules.proofs.Promises.Passes.{PassesPromise, passes-promise}
 use Rattle.rules.proofs.Promises.CountBounds.{CountsPromise, counts}
 use Rattle.rules.proofs.Promises.Refusals.{Refuses, refuses}
+use Rattle.rules.proofs.Promises.Blocks.{Blocks, blocks}
 use Rattle.rules.proofs.Promises.Entries.{Entries, entries}
 use Rattle.rules.proofs.Promises.Determined.{Determined, determined}
 use Rattle.rules.proofs.Promises.RepairFrames.{RepairsFrames, CountsDamage, repairs-frames, counts-damage}
@@ -27,6 +28,7 @@ pub record Promised (code : Code) : Type 0 where
   pub passes : PassesPromise code
   pub counts : CountsPromise code
   pub refuses : Refuses code
+  pub blocks : Blocks code
   pub entries : Entries code
   pub ones : OnesPromise code
   pub determined : Determined code
@@ -44,8 +46,9 @@ promised code able = record {
   encoding = encoding code (able .sound);
   round-trips = round-trips code (able .sound);
   passes = passes-promise code;
-  counts = counts code (able .sound);
+  counts = counts code;
   refuses = refuses code (able .sound);
+  blocks = blocks code (able .sound);
   entries = entries code able;
   ones = ones-promise code (able .sound);
   determined = determined code able;

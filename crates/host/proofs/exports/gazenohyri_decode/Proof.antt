@@ -1,32 +1,43 @@
--- `exports::gazenohyri_decode` meets its contract: what decode says has room, whatever the arguments.
--- Assumes nothing.
+use Rattle.host.proofs.FiguresLaws.{refused-block, put-block}
+use mathlib.Core.Path.{_≡_, refl, sym, ap, _∙_}
+use mathlib.Core.Logic.{⊎-elim}
+use Prim.Native.Nat.{ℕ, zero, suc, _+_, _*_, _-_, _/_, _%_, _^_, _≤_, _<_}
+use native.Mathlib.Omega.{arith}
+use native.Mathlib.Numerals.{add-one}
+use lib.ListN.{length, getD}
 use borrow.Author.Needs.{needs}
-use Rattle.rules.specs.Codes.{smallCode}
-use Rattle.rules.specs.Numbers.{decodeSaid}
-use Rattle.rules.proofs.Promises.Packing.{packs}
-use Rattle.host.proofs.PackLaws.{fits-said, packed-said}
 use Rattle.host.proofs.exports.gazenohyri_decode.Statement.{statement}
 use Rattle.host.proofs.exports.gazenohyri_decode.Tie as tie
+
+returns : tie.Need-returns
+returns c = refused-block _ _ _ _ _ (λ e. omega (arith, c .if1 .taken, e))
 
 decode-requires : tie.Need-decode-requires
 decode-requires c κs = search needs
 
-pack-decoded-requires : tie.Need-pack-decoded-requires
-pack-decoded-requires c κs =
-    let a = c .before .before .before .before .before .before .args in
-    fits-said (decodeSaid smallCode (a .n) (a .allowance) (a .received .now) (a .frame .now)) _ (c .before .before .decode .ensures .0)
-    (packs .fits (a .n) (a .allowance) (a .received .now) (a .frame .now))
+figures-of-requires : tie.Need-figures-of-requires
+figures-of-requires c κs = search needs
+
+put-figures-requires : tie.Need-put-figures-requires
+put-figures-requires c κs = search needs
 
 same-length : tie.Need-same-length
 same-length c = search needs
 
-returns : tie.Need-returns
-returns c =
-    let a = c .before .before .before .before .before .before .before .args in
-    let d = c .before .before .before .decode .ensures in (
-      packed-said (decodeSaid smallCode (a .n) (a .allowance) (a .received .now) (a .frame .now)) _ _ (d .0) (c .pack-decoded .ensures),
-      d .1,
-    )
+same-length-2 : tie.Need-same-length-2
+same-length-2 c = search needs
+
+returns-2 : tie.Need-returns-2
+returns-2 c = put-block _ _ _ _ _ _ _ _ _ (omega (arith, c .before .before .before .before .before .before .before .before .before .if1 .left)) (c .before .before .before .before .before .before .before .decode .ensures) (c .before .before .before .before .figures-of .ensures) (c .before .before .put-figures .ensures)
 
 pub gazenohyri-decode-spec : {M : Type 1} → statement M
-gazenohyri-decode-spec = tie.close (tie.spec decode-requires pack-decoded-requires same-length returns)
+gazenohyri-decode-spec =
+    tie.close
+    (tie.spec
+    returns
+    decode-requires
+    figures-of-requires
+    put-figures-requires
+    same-length
+    same-length-2
+    returns-2)

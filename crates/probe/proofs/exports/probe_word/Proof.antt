@@ -1,24 +1,35 @@
--- `exports::probe_word` meets its contract: a word's places have room.
--- Assumes nothing.
-use mathlib.Core.Path.{ap, _∙_}
-use Rattle.probe.specs.Calls.{packedWord}
-use Rattle.probe.proofs.ProbeLaws.{small-said}
+use Rattle.probe.proofs.ProbeLaws.{word-refused, word-put}
+use mathlib.Core.Path.{_≡_, refl, sym, ap, _∙_}
+use mathlib.Core.Logic.{⊎-elim}
+use Prim.Native.Nat.{ℕ, zero, suc, _+_, _*_, _-_, _/_, _%_, _^_, _≤_, _<_}
+use native.Mathlib.Omega.{arith}
+use native.Mathlib.Numerals.{add-one}
+use lib.ListN.{length, getD}
 use borrow.Author.Needs.{needs}
 use Rattle.probe.proofs.exports.probe_word.Statement.{statement}
 use Rattle.probe.proofs.exports.probe_word.Tie as tie
 
+returns : tie.Need-returns
+returns c = let a = c .before .before .before .before .args in word-refused (a .n) (a .received .now) (a .word .now) (a .block .now) (λ e. omega (arith, c .if1 .taken, e))
+
 decode-word-requires : tie.Need-decode-word-requires
 decode-word-requires c κs = search needs
 
-pack-said-requires : tie.Need-pack-said-requires
-pack-said-requires c κs = let a = c .before .before .before .before .before .before .args in
-    small-said (a .n) (a .received .now) (a .word .now) _ (c .before .before .decode-word .ensures .0)
+put-said-requires : tie.Need-put-said-requires
+put-said-requires c κs = search needs
 
 same-length : tie.Need-same-length
 same-length c = search needs
 
-returns : tie.Need-returns
-returns c = let d = c .before .before .before .decode-word .ensures in (c .pack-said .ensures ∙ ap packedWord (d .0), d .1)
+same-length-2 : tie.Need-same-length-2
+same-length-2 c = search needs
+
+returns-2 : tie.Need-returns-2
+returns-2 c = let a = c .before .before .before .before .before .before .before .before .before .before .before .before .args in
+    word-put (a .n) (a .received .now) (a .word .now) (a .block .now) _ _ _ _ (omega (arith, c .before .before .before .before .before .before .before .before .if1 .left)) (c .before .before .before .before .before .before .decode-word .ensures)
+    (c .before .before .put-said .ensures)
 
 pub probe-word-spec : {M : Type 1} → statement M
-probe-word-spec = tie.close (tie.spec decode-word-requires pack-said-requires same-length returns)
+probe-word-spec =
+    tie.close
+    (tie.spec returns decode-word-requires put-said-requires same-length same-length-2 returns-2)

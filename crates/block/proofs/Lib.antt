@@ -1,0 +1,2 @@
+-- Laws of numbers put into a block
+pub mod PutLaws

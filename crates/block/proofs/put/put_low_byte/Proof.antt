@@ -1,0 +1,26 @@
+use lib.ListN.{set}
+use lib.Bits.{and-mask}
+use mathlib.Core.Path.{_≡_, refl, sym, ap, _∙_}
+use mathlib.Core.Logic.{⊎-elim}
+use Prim.Native.Nat.{ℕ, zero, suc, _+_, _*_, _-_, _/_, _%_, _^_, _≤_, _<_}
+use native.Mathlib.Omega.{arith}
+use native.Mathlib.Numerals.{add-one}
+use lib.ListN.{length, getD}
+use borrow.Author.Needs.{needs}
+use Rattle.block.proofs.put.put_low_byte.Statement.{statement}
+use Rattle.block.proofs.put.put_low_byte.Tie as tie
+
+cast-block : tie.Need-cast-block
+cast-block c = rw (and-mask _ 8) (omega arith)
+
+slice-write-block : tie.Need-slice-write-block
+slice-write-block c = search needs
+
+same-length : tie.Need-same-length
+same-length c = search needs
+
+returns : tie.Need-returns
+returns c = ap (set (c .args .block .now) (c .args .at)) (and-mask (c .args .x) 8)
+
+pub put-low-byte-spec : {M : Type 1} → statement M
+put-low-byte-spec = tie.close (tie.spec cast-block slice-write-block same-length returns)

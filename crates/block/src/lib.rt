@@ -1,0 +1,2 @@
+// Numbers in a lent block of bytes, for C.
+pub mod put;
