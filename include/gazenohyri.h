@@ -70,7 +70,7 @@ enum {
     GAZENOHYRI_STUCK = 7,             /* pass 2 or a later one changed nothing, and not all words are codewords (decode) */
     GAZENOHYRI_SPENT = 8,             /* the allowance is used up, likewise (decode) */
     GAZENOHYRI_ERASED = 10,           /* all code bits are ones: of the frame given, or of the frame that the data would have */
-    GAZENOHYRI_BAD_BLOCK_LENGTH = 11  /* the block's length is not that of a block: checked first of all, nothing is written (decode) */
+    GAZENOHYRI_BAD_BLOCK_LENGTH = 11  /* not the length of a block: checked first of all, nothing is written (decode) */
 };
 
 /* The length in bytes of a frame, and of its data; 0 where n is not 18..256. */

@@ -13,7 +13,7 @@ void begin_group(const char *name);
 void expect(bool holds, const char *expression);
 void describe(const char *format, ...);
 
-/* The constants and the inline functions of gazenohyri.h. */
+/* The constants, the types and the inline functions of gazenohyri.h. */
 void header_values(void);
 
 #endif

@@ -1,6 +1,8 @@
-/* The constants and the inline functions of gazenohyri.h. */
+/* The constants, the types and the inline functions of gazenohyri.h. */
 #include "expect.h"
 #include "gazenohyri.h"
+
+#include <string.h>
 
 static void constants(void)
 {
@@ -9,9 +11,24 @@ static void constants(void)
                                   GAZENOHYRI_STUCK, GAZENOHYRI_SPENT};
     for (int i = 0; i < 9; i++)
         EXPECT(numbers[i] == i);
-    EXPECT(GAZENOHYRI_ERASED == 10);
+    EXPECT(GAZENOHYRI_ERASED == 10 && GAZENOHYRI_BAD_BLOCK_LENGTH == 11 && GAZENOHYRI_BLOCK_BYTES == 20);
     EXPECT(GAZENOHYRI_SMALLEST_N == 18 && GAZENOHYRI_GREATEST_N == 256 && GAZENOHYRI_CHECK_BITS == 17);
-    EXPECT(GAZENOHYRI_SMALLEST_ALLOWANCE == 1 && GAZENOHYRI_GREATEST_ALLOWANCE == 32);
+    EXPECT(GAZENOHYRI_SMALLEST_ALLOWANCE == 1 && GAZENOHYRI_GREATEST_ALLOWANCE == 200);
+}
+
+/* A function of another type would not compile. Each gets nothing but what it refuses. */
+static void types(void)
+{
+    uint32_t (*const encode)(size_t, const uint8_t *, size_t, uint8_t *, size_t) = gazenohyri_encode;
+    uint32_t (*const read)(size_t, const uint8_t *, size_t, uint8_t *, size_t) = gazenohyri_read;
+    uint32_t (*const decode)(size_t, size_t, const uint8_t *, size_t, uint8_t *, size_t, uint8_t *, size_t) = gazenohyri_decode;
+    uint8_t block[GAZENOHYRI_BLOCK_BYTES];
+    describe("n = 0, and buffers that are empty");
+    EXPECT(encode(0, NULL, 0, NULL, 0) == GAZENOHYRI_BAD_N);
+    EXPECT(read(0, NULL, 0, NULL, 0) == GAZENOHYRI_BAD_N);
+    EXPECT(decode(0, 0, NULL, 0, NULL, 0, block, sizeof block) == GAZENOHYRI_BAD_N);
+    EXPECT(gazenohyri_number(block) == GAZENOHYRI_BAD_N);
+    EXPECT(decode(0, 0, NULL, 0, NULL, 0, NULL, 0) == GAZENOHYRI_BAD_BLOCK_LENGTH);
 }
 
 static void sizes(void)
@@ -31,29 +48,48 @@ static void sizes(void)
     EXPECT(GAZENOHYRI_GREATEST_FRAME_BYTES == 256 * 32 && GAZENOHYRI_GREATEST_DATA_BYTES == 239 * 30);
 }
 
-/* Each field alone, all ones; and all of them, different. */
-static void fields(void)
+static void expect_values(const uint8_t *block, const uint32_t *values)
 {
-    static const uint64_t all[] = {UINT64_C(0xFF), UINT64_C(0xFF00), UINT64_C(0xFFFF0000), UINT64_C(0xFFFF00000000),
-                                   UINT64_C(0xFFFF000000000000)};
-    for (int i = 0; i < 5; i++) {
-        describe("field %d all ones", i);
-        EXPECT(gazenohyri_number(all[i]) == (i == 0 ? 0xFFu : 0u));
-        EXPECT(gazenohyri_passes(all[i]) == (i == 1 ? 0xFFu : 0u));
-        EXPECT(gazenohyri_bits(all[i]) == (i == 2 ? 0xFFFFu : 0u));
-        EXPECT(gazenohyri_bad_rows(all[i]) == (i == 3 ? 0xFFFFu : 0u));
-        EXPECT(gazenohyri_bad_columns(all[i]) == (i == 4 ? 0xFFFFu : 0u));
+    EXPECT(gazenohyri_number(block) == values[0]);
+    EXPECT(gazenohyri_passes(block) == values[1]);
+    EXPECT(gazenohyri_bits(block) == values[2]);
+    EXPECT(gazenohyri_bad_rows(block) == values[3]);
+    EXPECT(gazenohyri_bad_columns(block) == values[4]);
+}
+
+/* All bytes different, rising and falling from the greatest, at every alignment; then each byte alone, all ones. */
+static void blocks(void)
+{
+    static const uint32_t rising[] = {0x04030201, 0x08070605, 0x0C0B0A09, 0x100F0E0D, 0x14131211};
+    static const uint32_t falling[] = {0xFCFDFEFF, 0xF8F9FAFB, 0xF4F5F6F7, 0xF0F1F2F3, 0xECEDEEEF};
+    uint8_t bytes[GAZENOHYRI_BLOCK_BYTES + 7];
+    for (size_t shift = 0; shift < 8; shift++) {
+        describe("a block with all bytes different, %zu bytes into a buffer", shift);
+        for (int i = 0; i < GAZENOHYRI_BLOCK_BYTES; i++)
+            bytes[shift + (size_t)i] = (uint8_t)(i + 1);
+        expect_values(bytes + shift, rising);
+        for (int i = 0; i < GAZENOHYRI_BLOCK_BYTES; i++)
+            bytes[shift + (size_t)i] = (uint8_t)(0xFF - i);
+        expect_values(bytes + shift, falling);
     }
-    uint64_t answer = UINT64_C(0x0100010240002008);
-    describe("spent, 32 passes, 16384 bits, 258 rows, 256 columns");
-    EXPECT(gazenohyri_number(answer) == GAZENOHYRI_SPENT);
-    EXPECT(gazenohyri_passes(answer) == 32 && gazenohyri_bits(answer) == 16384);
-    EXPECT(gazenohyri_bad_rows(answer) == 258 && gazenohyri_bad_columns(answer) == 256);
+    for (int i = 0; i < GAZENOHYRI_BLOCK_BYTES; i++) {
+        uint32_t values[5] = {0, 0, 0, 0, 0};
+        describe("a block of zeros but for byte %d", i);
+        memset(bytes, 0, sizeof bytes);
+        bytes[i] = 0xFF;
+        values[i / 4] = (uint32_t)0xFF << 8 * (i % 4);
+        expect_values(bytes, values);
+    }
+    static const uint8_t spent[] = {8, 0, 0, 0, 200, 0, 0, 0, 0, 0, 1, 0, 0, 1, 0, 0, 255, 0, 0, 0};
+    static const uint32_t spent_values[] = {GAZENOHYRI_SPENT, GAZENOHYRI_GREATEST_ALLOWANCE, 65536, 256, 255};
+    describe("spent, 200 passes, 65536 bits, 256 rows, 255 columns");
+    expect_values(spent, spent_values);
 }
 
 void header_values(void)
 {
     constants();
+    types();
     sizes();
-    fields();
+    blocks();
 }

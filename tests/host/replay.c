@@ -2,7 +2,8 @@
  * come. Each is called on buffers that show a stray access: the input is read-only, and so is an output that must stay as it
  * is. A read or write in front of or behind a buffer, or a write to the input, ends the program with a line that names the
  * call, or fails a check. It is the guard pages that show what the archive's code does: it is not instrumented, so on the heap a
- * sanitizer sees the callers' code alone. */
+ * sanitizer sees the callers' code alone. Decode is called on each of its cases with blocks of other lengths too, all three
+ * buffers being read-only, and with block and frame side by side. */
 #define _DEFAULT_SOURCE /* MAP_ANONYMOUS */
 #include "expect.h"
 #include "gazenohyri.h"
@@ -17,17 +18,19 @@
 
 enum { AROUND = 0x5C, BEFORE = 0xA5 }; /* what the pages hold beside a buffer, and what the output holds before a call */
 enum { SHOWN = 5 };                    /* failures of a group that are printed */
-enum { MOST = 1 << 14 };               /* bytes of any buffer here: twice the longest frame */
+enum { MOST = 1 << 14 };               /* bytes of any buffer of a case: twice the longest frame */
+enum { BLOCK = GAZENOHYRI_BLOCK_BYTES };
 
 typedef enum { ENDS_AT_GUARD_PAGE, BEGINS_AFTER_GUARD_PAGE, ON_THE_HEAP, PLACEMENTS } Placement;
-static const char *const places[] = {"ends at a guard page", "begins after a guard page",
-                                     "on the heap, NULL where it is empty"};
+static const char *const places[] = {"each buffer ends at a guard page", "each buffer begins after a guard page",
+                                     "each buffer on the heap, NULL where it is empty"};
 
-/* As it is read. The length `after` is that of the output after the call, or 0 where that stays as it is. */
+/* As it is read. The length `after` is that of the output after the call, or 0 where that stays as it is. The values are those of
+ * the block: the number, then zeros for encode and read. */
 enum { ENCODE, DECODE, READ, FUNCTIONS };
 static const char *const names[] = {"encode", "decode", "read"};
 typedef struct {
-    uint64_t function, n, allowance, input, output, after, result;
+    uint64_t function, n, allowance, input, output, after, values[BLOCK / 4];
 } Case;
 
 typedef struct {
@@ -35,10 +38,10 @@ typedef struct {
     size_t length;
 } Lent;
 
-static Lent input, output;
+static Lent input, output, block;
 static size_t pages_length;
-static uint8_t given[MOST], expected[MOST], *around;
-static unsigned long checks, failures, null_inputs[FUNCTIONS], null_outputs[FUNCTIONS];
+static uint8_t given[MOST], expected[MOST], before[MOST + BLOCK], *around;
+static unsigned long checks, failures, null_inputs[FUNCTIONS], null_outputs[FUNCTIONS], null_blocks;
 static unsigned passed, failed;
 static char group[256], call[256];
 
@@ -85,7 +88,7 @@ static void on_signal(int number)
 static uint8_t *map_pages(void)
 {
     size_t page = (size_t)sysconf(_SC_PAGESIZE);
-    pages_length = (MOST + page - 1) / page * page;
+    pages_length = (MOST + BLOCK + page - 1) / page * page;
     void *at = mmap(NULL, pages_length + 2 * page, PROT_READ | PROT_WRITE, MAP_PRIVATE | MAP_ANONYMOUS, -1, 0);
     uint8_t *first = (uint8_t *)at + page;
     if (at == MAP_FAILED || mprotect(at, page, PROT_NONE) || mprotect(first + pages_length, page, PROT_NONE))
@@ -124,31 +127,78 @@ static void take_back(Lent *buffer, const uint8_t *bytes, Placement placement)
     EXPECT(memcmp(buffer->pages, around, pages_length) == 0); /* nothing beside it was written */
 }
 
-static uint64_t answer_of(const Case *c)
+/* Byte by byte, apart from the header's functions. */
+static void expected_block(const Case *c, uint8_t *bytes)
 {
-    size_t n = (size_t)c->n, allowance = (size_t)c->allowance;
-    if (c->function == ENCODE)
-        return gazenohyri_encode(n, input.bytes, input.length, output.bytes, output.length);
-    if (c->function == READ)
-        return gazenohyri_read(n, input.bytes, input.length, output.bytes, output.length);
-    return gazenohyri_decode(n, allowance, input.bytes, input.length, output.bytes, output.length);
+    for (size_t i = 0; i < BLOCK; i++)
+        bytes[i] = (uint8_t)(c->values[i / 4] >> 8 * (i % 4));
 }
 
-static void try_case(const Case *c, Placement placement)
+static uint32_t number_of(const Case *c, uint8_t *out, uint8_t *values, size_t values_length)
 {
-    static uint8_t before[MOST];
-    memset(before, BEFORE, (size_t)c->output);
+    size_t n = (size_t)c->n, allowance = (size_t)c->allowance, length = (size_t)c->output;
+    if (c->function == ENCODE)
+        return gazenohyri_encode(n, input.bytes, input.length, out, length);
+    if (c->function == READ)
+        return gazenohyri_read(n, input.bytes, input.length, out, length);
+    return gazenohyri_decode(n, allowance, input.bytes, input.length, out, length, values, values_length);
+}
+
+static void describe_case(const Case *c, size_t block_length, const char *where)
+{
+    describe("%s(n = %zu, allowance = %zu, lengths %zu and %zu, block %zu), %s, for number %u, passes %u, bits %u, rows %u, "
+             "columns %u", names[c->function], (size_t)c->n, (size_t)c->allowance, (size_t)c->input, (size_t)c->output,
+             block_length, where, (unsigned)c->values[0], (unsigned)c->values[1], (unsigned)c->values[2],
+             (unsigned)c->values[3], (unsigned)c->values[4]);
+}
+
+/* A block of another length than its own must be refused, whatever the case would give, and then nothing may be written. */
+static void try_case(const Case *c, size_t block_length, Placement placement)
+{
+    uint8_t values[BLOCK];
+    bool refused = c->function == DECODE && block_length != BLOCK;
+    expected_block(c, values);
     lend(&input, given, (size_t)c->input, placement, true);
-    lend(&output, before, (size_t)c->output, placement, c->after == 0);
+    lend(&output, before, (size_t)c->output, placement, refused || c->after == 0);
+    lend(&block, before, block_length, placement, refused);
     null_inputs[c->function] += input.bytes == NULL;
     null_outputs[c->function] += output.bytes == NULL;
-    describe("%s(n = %zu, allowance = %zu, lengths %zu and %zu), each buffer %s, for the result %#llx", names[c->function],
-             (size_t)c->n, (size_t)c->allowance, input.length, output.length, places[placement],
-             (unsigned long long)c->result);
-    uint64_t answer = answer_of(c);
-    EXPECT(answer == c->result);
+    null_blocks += refused && block.bytes == NULL;
+    describe_case(c, block_length, places[placement]);
+    uint32_t number = number_of(c, output.bytes, block.bytes, block_length);
+    EXPECT(number == (refused ? (uint32_t)GAZENOHYRI_BAD_BLOCK_LENGTH : c->values[0]));
     take_back(&input, given, placement);
-    take_back(&output, c->after > 0 ? expected : before, placement);
+    take_back(&output, refused || c->after == 0 ? before : expected, placement);
+    take_back(&block, refused ? before : values, placement);
+}
+
+/* Block and frame in one buffer, the one's last byte next to the other's first: what is written of either into the other shows. */
+static void try_side_by_side(const Case *c, bool block_first)
+{
+    static uint8_t after[MOST + BLOCK];
+    Placement placement = block_first ? ENDS_AT_GUARD_PAGE : BEGINS_AFTER_GUARD_PAGE;
+    size_t length = (size_t)c->output, frame_at = block_first ? BLOCK : 0, block_at = block_first ? 0 : length;
+    memcpy(after + frame_at, c->after > 0 ? expected : before, length);
+    expected_block(c, after + block_at);
+    lend(&input, given, (size_t)c->input, placement, true);
+    lend(&output, before, length + BLOCK, placement, false);
+    describe_case(c, BLOCK, block_first ? "the block right before the frame" : "the block right behind the frame");
+    uint32_t number = number_of(c, output.bytes + frame_at, output.bytes + block_at, BLOCK);
+    EXPECT(number == c->values[0]);
+    take_back(&input, given, placement);
+    take_back(&output, after, placement);
+}
+
+static void try_everywhere(const Case *c)
+{
+    static const size_t other_lengths[] = {0, BLOCK - 1, BLOCK + 1};
+    for (int placement = 0; placement < PLACEMENTS; placement++) {
+        try_case(c, c->function == DECODE ? BLOCK : 0, (Placement)placement);
+        for (int i = 0; i < 3 && c->function == DECODE; i++)
+            try_case(c, other_lengths[i], (Placement)placement);
+    }
+    for (int block_first = 0; block_first < 2 && c->function == DECODE; block_first++)
+        try_side_by_side(c, block_first);
 }
 
 static void get(void *bytes, uint64_t length)
@@ -162,13 +212,17 @@ int main(void)
     Case c;
     input.pages = map_pages();
     output.pages = map_pages();
+    block.pages = map_pages();
     around = map_pages();
+    memset(before, BEFORE, sizeof before);
     signal(SIGSEGV, on_signal);
     signal(SIGBUS, on_signal);
-    begin_group("the header's constants, sizes and fields");
+    begin_group("the header's constants, types, sizes and readers of a block");
     header_values();
     size_t got;
     while ((got = fread(&c, 1, sizeof c, stdin)) == sizeof c) {
+        if (c.function > FUNCTIONS || c.output > MOST)
+            stop("the cases can't be read");
         if (c.function == FUNCTIONS) { /* a new group, and the length of its name */
             get(given, c.n);
             given[c.n] = '\0';
@@ -177,12 +231,12 @@ int main(void)
         }
         get(given, c.input);
         get(expected, c.after);
-        for (int placement = 0; placement < PLACEMENTS; placement++)
-            try_case(&c, (Placement)placement);
+        try_everywhere(&c);
     }
     if (got != 0 || !feof(stdin))
         stop("the cases can't be read");
-    begin_group("NULL with length 0: lent to each function, as input and as output");
+    begin_group("NULL with length 0: lent to each function, as input and as output, and to decode as block");
+    EXPECT(null_blocks > 0);
     for (int function = 0; function < FUNCTIONS; function++)
         EXPECT(null_inputs[function] > 0 && null_outputs[function] > 0);
     begin_group("");
