@@ -13,6 +13,16 @@ frame18 one '\x00\x00\x40'
 frame18 b '\xC0'
 frame18 c '\xFF\xFF\xC0\xFF\xFF\xC0'
 frame18 d '\xE0\x00\x00\xE0\x00\x00\xE0'
+# A frame of 39 in which every pass flips something, for ever; and one of 80 with bits i to i + 2 of row i wrong, in the first 66
+# rows: each pass but the first mends two words at either end of that band.
+{ printf '%b\0\0\0\0' '\xC4' '\xD8' '\x54' '\xF4' && zeros 175; } >"$files/endless"
+for i in {0..65}; do
+    zeros $((i / 8))
+    printf -v two '\\x%02X\\x%02X' $((0xE000 >> i % 8 >> 8)) $((0xE000 >> i % 8 & 255))
+    printf '%b' "$two"
+    zeros $((8 - i / 8))
+done >"$files/band"
+zeros 140 >>"$files/band"
 ones() { zeros "$1" | tr '\0' '\377'; }
 ones 54 >"$files/ones"
 for _ in {1..18}; do printf '\377\377\300'; done >"$files/ones0" # spare bits zero
@@ -21,6 +31,7 @@ ones 8192 >"$files/ones256"
 zeros 0 >"$files/empty"
 zeros 53 >"$files/short"
 zeros 55 >"$files/long"
+zeros 800 >"$files/a80"
 zeros 8192 >"$files/a256"
 zeros 8193 >"$files/long256"
 zeros 100000 >"$files/huge"
@@ -49,25 +60,28 @@ repair() { # WHAT STATUS SENTENCE OUTPUT WORD...
 unmended='left that are not codewords, nothing written'
 bad_n='refused, number 1: N is not 18 to 256, nothing written'
 bad_length='refused, number 2: the file does not have the length of a frame of N rows, nothing written'
-bad_allowance='refused, number 4: the allowance is not 1 to 32, nothing written'
+bad_allowance='refused, number 4: the allowance is not 1 to 200, nothing written'
 
 repair 'clean' 0 'clean' a a out 18
-repair 'clean, 256 rows' 0 'clean' a256 a256 out 256 32
+repair 'clean, 256 rows' 0 'clean' a256 a256 out 256 200
 repair 'clean, the spare bit gone' 0 'clean' a spare out 18
 repair 'one bit' 0 'repaired in 1 pass, 1 bit mended' a one out 18
 repair 'item B' 0 'repaired in 1 pass, 2 bits mended' a b out 18 1
 repair 'item C' 0 'repaired in 2 passes, 36 bits mended' a c out 18
 repair 'item C, allowance 1' 1 "spent after 1 pass: 2 rows and 18 columns $unmended" - c out 18 1
 repair 'item D' 1 "stuck after 2 passes: 3 rows and 3 columns $unmended" - d out 18
+repair 'a band of 66 rows' 0 'repaired in 34 passes, 198 bits mended' a80 band out 80 200
+repair 'a band, allowance 33' 1 "spent after 33 passes: 2 rows and 4 columns $unmended" - band out 80 33
+repair 'without an end' 1 "spent after 200 passes: 4 rows and 4 columns $unmended" - endless out 39 200
 erased='erased: all bits are ones, nothing written'
 repair 'erased' 1 "$erased" - ones out 18
 repair 'erased, spare bits zero' 1 "$erased" - ones0 out 18
-repair 'erased, 256 rows' 1 "$erased" - ones256 out 256 32
+repair 'erased, 256 rows' 1 "$erased" - ones256 out 256 200
 repair 'one bit is not one, 256 rows' 0 'repaired in 1 pass, 1 bit mended' ones256 nearly256 out 256
 cp "$files/before" "$files/out"
 repair 'an output that is there is replaced' 0 'repaired in 1 pass, 2 bits mended' a b out 18
 cp "$files/before" "$files/out"
-repair 'and kept where nothing is repaired' 1 "stuck after 2 passes: 3 rows and 3 columns $unmended" before d out 18 32
+repair 'and kept where nothing is repaired' 1 "stuck after 2 passes: 3 rows and 3 columns $unmended" before d out 18 200
 repair 'n' 2 "$bad_n" - b out 17
 repair 'n' 2 "$bad_n" - b out 257
 repair 'n that no size can be' 2 "$bad_n" - b out 340282366920938463463374607431768211474 # 2^128 + 18
@@ -77,7 +91,7 @@ repair 'length' 2 "$bad_length" - empty out 18
 repair 'length' 2 "$bad_length" - long256 out 256
 repair 'length' 2 "$bad_length" - huge out 256
 repair 'allowance' 2 "$bad_allowance" - b out 18 0
-repair 'allowance' 2 "$bad_allowance" - b out 18 33
+repair 'allowance' 2 "$bad_allowance" - b out 18 201
 repair 'no words' 2 '' -
 repair 'too few words' 2 '' - b out
 repair 'too many words' 2 '' - b out 18 2 2

@@ -27,8 +27,10 @@ enum { USUAL_ALLOWANCE = 2 };
 static int usage(const char *why)
 {
     fprintf(stderr, "%susage: repair_frame IN OUT N [ALLOWANCE]\n", why);
-    fprintf(stderr, "repairs the frame of N rows, 18 to 256, in the file IN, and writes it to the file OUT\n");
-    fprintf(stderr, "ALLOWANCE: passes over rows and columns, 1 to 32, %d if it is not given\n", USUAL_ALLOWANCE);
+    fprintf(stderr, "repairs the frame of N rows, %d to %d, in the file IN, and writes it to the file OUT\n",
+            GAZENOHYRI_SMALLEST_N, GAZENOHYRI_GREATEST_N);
+    fprintf(stderr, "ALLOWANCE: passes over rows and columns, %d to %d, %d if it is not given\n",
+            GAZENOHYRI_SMALLEST_ALLOWANCE, GAZENOHYRI_GREATEST_ALLOWANCE, USUAL_ALLOWANCE);
     return REFUSED;
 }
 
@@ -101,17 +103,20 @@ static bool is_same_file(const char *one, const char *other)
     return stat(one, &a) == 0 && stat(other, &b) == 0 && a.st_dev == b.st_dev && a.st_ino == b.st_ino;
 }
 
-static const char *reason(uint32_t number)
+static void print_reason(uint32_t number)
 {
     switch (number) {
     case GAZENOHYRI_BAD_N:
-        return "N is not 18 to 256";
+        printf("N is not %d to %d", GAZENOHYRI_SMALLEST_N, GAZENOHYRI_GREATEST_N);
+        break;
     case GAZENOHYRI_BAD_INPUT_LENGTH:
-        return "the file does not have the length of a frame of N rows";
+        printf("the file does not have the length of a frame of N rows");
+        break;
     case GAZENOHYRI_BAD_ALLOWANCE:
-        return "the allowance is not 1 to 32";
+        printf("the allowance is not %d to %d", GAZENOHYRI_SMALLEST_ALLOWANCE, GAZENOHYRI_GREATEST_ALLOWANCE);
+        break;
     default: /* decode gives no other to this program */
-        return "unknown";
+        printf("unknown");
     }
 }
 
@@ -120,22 +125,22 @@ static void print_count(const char *before, uint32_t count, const char *one, con
     printf("%s%u %s", before, (unsigned)count, count == 1 ? one : more);
 }
 
-static int report(uint64_t answer)
+static int report(const uint8_t *block)
 {
-    uint32_t number = gazenohyri_number(answer), passes = gazenohyri_passes(answer);
+    uint32_t number = gazenohyri_number(block), passes = gazenohyri_passes(block);
     if (number == GAZENOHYRI_OK && passes == 0) {
         printf("clean\n");
         return DONE;
     }
     if (number == GAZENOHYRI_OK) {
         print_count("repaired in ", passes, "pass", "passes");
-        print_count(", ", gazenohyri_bits(answer), "bit mended\n", "bits mended\n");
+        print_count(", ", gazenohyri_bits(block), "bit mended\n", "bits mended\n");
         return DONE;
     }
     if (number == GAZENOHYRI_STUCK || number == GAZENOHYRI_SPENT) {
         print_count(number == GAZENOHYRI_STUCK ? "stuck after " : "spent after ", passes, "pass", "passes");
-        print_count(": ", gazenohyri_bad_rows(answer), "row", "rows");
-        print_count(" and ", gazenohyri_bad_columns(answer), "column", "columns");
+        print_count(": ", gazenohyri_bad_rows(block), "row", "rows");
+        print_count(" and ", gazenohyri_bad_columns(block), "column", "columns");
         printf(" left that are not codewords, nothing written\n");
         return NOT_REPAIRED;
     }
@@ -143,7 +148,9 @@ static int report(uint64_t answer)
         printf("erased: all bits are ones, nothing written\n");
         return NOT_REPAIRED;
     }
-    printf("refused, number %u: %s, nothing written\n", (unsigned)number, reason(number));
+    printf("refused, number %u: ", (unsigned)number);
+    print_reason(number);
+    printf(", nothing written\n");
     return REFUSED;
 }
 
@@ -151,6 +158,7 @@ int main(int count, char **words)
 {
     static uint8_t received[GAZENOHYRI_GREATEST_FRAME_BYTES + 1]; /* one more, to see that a file is too long */
     static uint8_t frame[GAZENOHYRI_GREATEST_FRAME_BYTES];
+    uint8_t block[GAZENOHYRI_BLOCK_BYTES];
     size_t n = 0, allowance = USUAL_ALLOWANCE, length = 0;
     if (count < 4 || count > 5 || !parse(words[3], &n) || (count == 5 && !parse(words[4], &allowance)))
         return usage("");
@@ -159,9 +167,10 @@ int main(int count, char **words)
         return FILE_ERROR;
     if (is_same_file(in, out))
         return usage("OUT is the file IN\n");
-    uint64_t answer = gazenohyri_decode(n, allowance, received, length, frame, gazenohyri_frame_bytes(n));
-    if (gazenohyri_number(answer) == GAZENOHYRI_OK && !write_file(out, frame, gazenohyri_frame_bytes(n)))
+    size_t bytes = gazenohyri_frame_bytes(n);
+    uint32_t number = gazenohyri_decode(n, allowance, received, length, frame, bytes, block, sizeof block);
+    if (number == GAZENOHYRI_OK && !write_file(out, frame, bytes))
         return FILE_ERROR;
-    int status = report(answer);
+    int status = report(block);
     return fflush(stdout) == 0 || file_error("write", "standard output") ? status : FILE_ERROR;
 }

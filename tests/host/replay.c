@@ -172,7 +172,7 @@ static void try_case(const Case *c, size_t block_length, Placement placement)
     take_back(&block, refused ? before : values, placement);
 }
 
-/* Block and frame in one buffer, the one's last byte next to the other's first: what is written of either into the other shows. */
+/* Block and frame in one buffer, the one's last byte next to the other's first: a write of either into the other shows. */
 static void try_side_by_side(const Case *c, bool block_first)
 {
     static uint8_t after[MOST + BLOCK];

@@ -12,22 +12,24 @@ enum { STACK = 1 << 18, PAINT = 0xC3, SPARED = 256, N = 256, MOST = 4096 }; /* M
 
 static uint8_t data[GAZENOHYRI_GREATEST_DATA_BYTES], frame[GAZENOHYRI_GREATEST_FRAME_BYTES];
 static uint8_t received[GAZENOHYRI_GREATEST_FRAME_BYTES];
+static uint8_t block[GAZENOHYRI_BLOCK_BYTES];
 static uint8_t *stack;
-static uint64_t answer;
+static uint32_t returned;
 
 static void encode(void)
 {
-    answer = gazenohyri_encode(N, data, sizeof data, frame, sizeof frame);
+    returned = gazenohyri_encode(N, data, sizeof data, frame, sizeof frame);
 }
 
 static void decode(void)
 {
-    answer = gazenohyri_decode(N, 32, received, sizeof received, frame, sizeof frame);
+    returned = gazenohyri_decode(N, GAZENOHYRI_GREATEST_ALLOWANCE, received, sizeof received, frame, sizeof frame, block,
+                                 sizeof block);
 }
 
 static void read_data(void)
 {
-    answer = gazenohyri_read(N, frame, sizeof frame, data, sizeof data);
+    returned = gazenohyri_read(N, frame, sizeof frame, data, sizeof data);
 }
 
 typedef struct {
@@ -50,7 +52,7 @@ static void *measure(void *given)
     return NULL;
 }
 
-static size_t stack_use(void (*call)(void), uint64_t number)
+static size_t stack_use(void (*call)(void), uint32_t number)
 {
     Measured measured = {call, 0};
     pthread_attr_t attributes;
@@ -60,7 +62,7 @@ static size_t stack_use(void (*call)(void), uint64_t number)
         puts("no thread on a stack of its own");
         exit(1);
     }
-    if (gazenohyri_number(answer) != number) {
+    if (returned != number) {
         puts("a call was refused, or not answered as it must be");
         exit(1);
     }
@@ -78,7 +80,7 @@ int main(void)
     for (size_t i = 0; i < sizeof frame; i++)
         received[i] = (uint8_t)(frame[i] ^ (i % 32 < 3 ? i % 251 : 0)); /* many words of none, one, two and more wrong bits */
     size_t decoding = stack_use(decode, GAZENOHYRI_SPENT);
-    if (gazenohyri_passes(answer) < 2 || gazenohyri_bits(answer) == 0) {
+    if (gazenohyri_passes(block) != GAZENOHYRI_GREATEST_ALLOWANCE || gazenohyri_bits(block) == 0) {
         puts("decode had too little to do");
         return 1;
     }
