@@ -104,7 +104,7 @@ static void compare_checks(struct bch_control *bch)
 enum { REFUSED = 9, OTHERS = 3000, RANDOM_WORDS = 1000 };
 
 struct answer {
-    unsigned number, changed;
+    uint32_t number, changed;
     size_t first, second; /* zero where there is none */
 };
 
@@ -119,7 +119,7 @@ static bool same_answer(struct answer a, struct answer b)
 
 static void show_answer(const char *who, struct answer a)
 {
-    printf("    %-11s number %u, places changed %u: %zu, %zu\n", who, a.number, a.changed, a.first, a.second);
+    printf("    %-11s number %u, places changed %u: %zu, %zu\n", who, (unsigned)a.number, (unsigned)a.changed, a.first, a.second);
 }
 
 /* bch_decode numbers the bits of a byte from the lowest. */
@@ -151,20 +151,33 @@ static struct answer kernel_answer(struct bch_control *bch, size_t n, const uint
     return answer_of((unsigned)found, places[0], places[1]);
 }
 
+/* Four bytes of a block, the low one first. */
+static uint32_t value_of(const uint8_t *at)
+{
+    return (uint32_t)at[0] | (uint32_t)at[1] << 8 | (uint32_t)at[2] << 16 | (uint32_t)at[3] << 24;
+}
+
+static struct answer our_answer(size_t n, const uint8_t *received, uint8_t *word)
+{
+    uint8_t block[WORD_BLOCK_BYTES];
+    memset(word, 0xA5, LONGEST_BYTES);
+    memset(block, 0xA5, sizeof block);
+    uint32_t number = probe_word(n, received, bytes_of(n), word, bytes_of(n), block, sizeof block);
+    return (struct answer){number, value_of(block), value_of(block + 4), value_of(block + 8)};
+}
+
 /* Our answer, and the word that comes with it: the received one with the named places changed. */
 static void compare_answer(struct comparison *kind, size_t n, const uint8_t *received, struct answer expected)
 {
     uint8_t word[LONGEST_BYTES], mended[LONGEST_BYTES];
     size_t length = bytes_of(n);
-    memset(word, 0xA5, sizeof word);
-    uint64_t packed = probe_word(n, received, length, word, length);
-    struct answer ours = {packed & 0xFF, packed >> 8 & 0xFF, packed >> 16 & 0xFFFF, packed >> 32 & 0xFFFF};
+    struct answer ours = our_answer(n, received, word);
     memcpy(mended, received, length);
     if (expected.changed > 0)
         flip(mended, expected.first);
     if (expected.changed > 1)
         flip(mended, expected.second);
-    if (differs(kind, packed >> 48 == 0 && same_answer(ours, expected) && memcmp(word, mended, length) == 0)) {
+    if (differs(kind, same_answer(ours, expected) && memcmp(word, mended, length) == 0)) {
         show_word("received", n, received);
         show_answer("lib/bch.c", expected);
         show_word("", n, mended);

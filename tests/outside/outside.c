@@ -60,9 +60,9 @@ void random_bits(uint8_t *packed, size_t bits)
 
 void encode(size_t n, const uint8_t *data, uint8_t *frame)
 {
-    size_t k = n - BESIDE_DATA, data_len = k * bytes_of(k), frame_len = n * bytes_of(n);
-    memset(frame, 0xA5, frame_len);
-    uint32_t number = gazenohyri_encode(n, data, data_len, frame, frame_len);
+    size_t k = n - BESIDE_DATA, data_bytes = k * bytes_of(k), frame_bytes = n * bytes_of(n);
+    memset(frame, 0xA5, frame_bytes);
+    uint32_t number = gazenohyri_encode(n, data, data_bytes, frame, frame_bytes);
     if (number != 0) {
         printf("FAILED the encoder gives the number %u for good data, n = %zu\n", (unsigned)number, n);
         exit(1);

@@ -7,8 +7,11 @@
 
 #include <stdbool.h>
 
-/* Bits 0..7 the number, 8..15 how many places were changed, 16..31 the first place, 32..47 the second. */
-uint64_t probe_word(size_t n, const uint8_t *received, size_t received_len, uint8_t *word, size_t word_len);
+/* Returns the number. The block gets three values of 32 bits, the low byte first: how many places were changed, the first place,
+   and the second; zero where there is none. */
+enum { WORD_BLOCK_BYTES = 12 };
+uint32_t probe_word(size_t n, const uint8_t *received, size_t received_bytes, uint8_t *word, size_t word_bytes, uint8_t *block,
+                    size_t block_bytes);
 
 /* a^(e mod 255) as a byte. */
 uint8_t probe_power(size_t e);
