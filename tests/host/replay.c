@@ -16,7 +16,7 @@
 #include <sys/mman.h>
 #include <unistd.h>
 
-enum { AROUND = 0x5C, BEFORE = 0xA5 }; /* what the pages hold beside a buffer, and what the output holds before a call */
+enum { AROUND = 0x5C, BEFORE = 0xA5 }; /* what the pages hold beside a buffer, and output and block before a call */
 enum { SHOWN = 5 };                    /* failures of a group that are printed */
 enum { MOST = 1 << 14 };               /* bytes of any buffer of a case: twice the longest frame */
 enum { BLOCK = GAZENOHYRI_BLOCK_BYTES };
@@ -146,10 +146,11 @@ static uint32_t number_of(const Case *c, uint8_t *out, uint8_t *values, size_t v
 
 static void describe_case(const Case *c, size_t block_length, const char *where)
 {
-    describe("%s(n = %zu, allowance = %zu, lengths %zu and %zu, block %zu), %s, for number %u, passes %u, bits %u, rows %u, "
-             "columns %u", names[c->function], (size_t)c->n, (size_t)c->allowance, (size_t)c->input, (size_t)c->output,
-             block_length, where, (unsigned)c->values[0], (unsigned)c->values[1], (unsigned)c->values[2],
-             (unsigned)c->values[3], (unsigned)c->values[4]);
+    const uint64_t *values = c->values;
+    describe("%s(n = %zu, allowance = %zu, lengths %zu and %zu, block %zu), %s, a case of number %u, passes %u, bits %u, "
+             "rows %u, columns %u", names[c->function], (size_t)c->n, (size_t)c->allowance, (size_t)c->input,
+             (size_t)c->output, block_length, where, (unsigned)values[0], (unsigned)values[1], (unsigned)values[2],
+             (unsigned)values[3], (unsigned)values[4]);
 }
 
 /* A block of another length than its own must be refused, whatever the case would give, and then nothing may be written. */
