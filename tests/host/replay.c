@@ -19,6 +19,7 @@
 enum { AROUND = 0x5C, BEFORE = 0xA5 }; /* what the pages hold beside a buffer, and output and block before a call */
 enum { SHOWN = 5 };                    /* failures of a group that are printed */
 enum { MOST = 1 << 14 };               /* bytes of any buffer of a case: twice the longest frame */
+enum { FEW = 16 };                     /* passes; a case that takes more is called in one way alone */
 enum { BLOCK = GAZENOHYRI_BLOCK_BYTES };
 
 typedef enum { ENDS_AT_GUARD_PAGE, BEGINS_AFTER_GUARD_PAGE, ON_THE_HEAP, PLACEMENTS } Placement;
@@ -190,16 +191,29 @@ static void try_side_by_side(const Case *c, bool block_first)
     take_back(&output, after, placement);
 }
 
-static void try_everywhere(const Case *c)
+/* Passes take the time, and a later one touches no other bytes: of the ways to call, a case of many takes the next in turn. */
+static void try_ways(const Case *c)
 {
-    static const size_t other_lengths[] = {0, BLOCK - 1, BLOCK + 1};
-    for (int placement = 0; placement < PLACEMENTS; placement++) {
-        try_case(c, c->function == DECODE ? BLOCK : 0, (Placement)placement);
-        for (int i = 0; i < 3 && c->function == DECODE; i++)
-            try_case(c, other_lengths[i], (Placement)placement);
+    static int turn;
+    int ways = c->function == DECODE ? PLACEMENTS + 2 : PLACEMENTS;
+    bool long_case = c->values[1] > FEW;
+    turn += long_case;
+    for (int way = 0; way < ways; way++) {
+        if (long_case && way != turn % ways)
+            continue;
+        if (way < PLACEMENTS)
+            try_case(c, c->function == DECODE ? BLOCK : 0, (Placement)way);
+        else
+            try_side_by_side(c, way == PLACEMENTS);
     }
-    for (int block_first = 0; block_first < 2 && c->function == DECODE; block_first++)
-        try_side_by_side(c, block_first);
+}
+
+static void try_other_blocks(const Case *c)
+{
+    static const size_t lengths[] = {0, BLOCK - 1, BLOCK + 1};
+    for (int placement = 0; placement < PLACEMENTS; placement++)
+        for (int i = 0; i < 3; i++)
+            try_case(c, lengths[i], (Placement)placement);
 }
 
 static void get(void *bytes, uint64_t length)
@@ -232,7 +246,9 @@ int main(void)
         }
         get(given, c.input);
         get(expected, c.after);
-        try_everywhere(&c);
+        try_ways(&c);
+        if (c.function == DECODE)
+            try_other_blocks(&c);
     }
     if (got != 0 || !feof(stdin))
         stop("the cases can't be read");
