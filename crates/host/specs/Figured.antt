@@ -1,5 +1,4 @@
 -- From the code's struct to the values of the rules.
-use Prim.Native.Nat.{ℕ}
 use Rattle.rules.specs.Numbers as rules
 use Rattle.host.specs.declared.figures.Figures.{Figures}
 

@@ -23,62 +23,38 @@ pub(crate) struct Figures {
     columns: usize,
 }
 
-// The number alone.
-fn number_figures(number: u32) -> Figures
-    ensures { λ f. ⌜ figuresIn f ≡ figuresWith number 0 0 0 0 ⌝ }
+fn figures_with(number: u32, passes: usize, bits: usize, rows: usize, columns: usize) -> Figures
+    ensures { λ f. ⌜ figuresIn f ≡ figuresWith number passes bits rows columns ⌝ }
 {
     Figures {
         number: number,
-        passes: 0,
-        bits: 0,
-        rows: 0,
-        columns: 0,
+        passes: passes,
+        bits: bits,
+        rows: rows,
+        columns: columns,
     }
 }
 
-// Where it succeeded there are no rows and columns.
-fn success_figures(r: Report) -> Figures
-    ensures { λ f. ⌜ figuresIn f ≡ figuresWith 0 (r .passes) (r .bits) 0 0 ⌝ }
-{
-    Figures {
-        number: DONE,
-        passes: r.passes,
-        bits: r.bits,
-        rows: 0,
-        columns: 0,
-    }
-}
-
-fn failure_figures(number: u32, r: Report) -> Figures
-    ensures { λ f. ⌜ figuresIn f ≡ figuresWith number (r .passes) (r .bits) (r .rows) (r .columns) ⌝ }
-{
-    Figures {
-        number: number,
-        passes: r.passes,
-        bits: r.bits,
-        rows: r.rows,
-        columns: r.columns,
-    }
-}
-
+// What is not given is zero: no rows and columns where it succeeded, and nothing where it is erased.
 fn report_figures(r: Report) -> Figures
     ensures { λ f. ⌜ figuresIn f ≡ reportFigures r ⌝ }
 {
     let ending = r.ending;
     match ending {
-        Ending::Clean => success_figures(r),
-        Ending::Repaired => success_figures(r),
-        Ending::Stuck => failure_figures(STUCK, r),
-        Ending::Spent => failure_figures(SPENT, r),
-        Ending::Erased => number_figures(ERASED),
+        Ending::Clean => figures_with(DONE, r.passes, r.bits, 0, 0),
+        Ending::Repaired => figures_with(DONE, r.passes, r.bits, 0, 0),
+        Ending::Stuck => figures_with(STUCK, r.passes, r.bits, r.rows, r.columns),
+        Ending::Spent => figures_with(SPENT, r.passes, r.bits, r.rows, r.columns),
+        Ending::Erased => figures_with(ERASED, 0, 0, 0, 0),
     }
 }
 
+// A refusal has its number alone.
 pub(crate) fn figures_of(d: Decoded) -> Figures
     ensures { λ f. ⌜ figuresIn f ≡ figures d ⌝ }
 {
     match d {
-        Decoded::Refused(k) => number_figures(k),
+        Decoded::Refused(k) => figures_with(k, 0, 0, 0, 0),
         Decoded::Ended(r) => report_figures(r),
     }
 }

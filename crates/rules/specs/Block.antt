@@ -1,6 +1,6 @@
 -- RULES 7: decode's answer for C, with its values in a lent block of bytes.
 use mathlib.Core.List.{List, [], _∷_, _++_}
-use Prim.Native.Nat.{ℕ, _+_, _*_, _/_, _%_, _^_, _<_}
+use Prim.Native.Nat.{ℕ, _+_, _*_, _/_, _%_, _^_}
 use lib.ListN.{getD}
 use Rattle.rules.specs.Codes.{Code}
 use Rattle.rules.specs.Numbers.{pick, notLong, Figures, figuresOf, decodeSaid, decodeOutput}

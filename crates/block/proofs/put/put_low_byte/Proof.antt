@@ -1,11 +1,10 @@
+-- `put::put_low_byte` meets its contract: the mask leaves the low byte.
+-- Assumes nothing.
+use mathlib.Core.Path.{ap}
+use Prim.Native.Nat.{_-_}
+use native.Mathlib.Omega.{arith}
 use lib.ListN.{set}
 use lib.Bits.{and-mask}
-use mathlib.Core.Path.{_≡_, refl, sym, ap, _∙_}
-use mathlib.Core.Logic.{⊎-elim}
-use Prim.Native.Nat.{ℕ, zero, suc, _+_, _*_, _-_, _/_, _%_, _^_, _≤_, _<_}
-use native.Mathlib.Omega.{arith}
-use native.Mathlib.Numerals.{add-one}
-use lib.ListN.{length, getD}
 use borrow.Author.Needs.{needs}
 use Rattle.block.proofs.put.put_low_byte.Statement.{statement}
 use Rattle.block.proofs.put.put_low_byte.Tie as tie

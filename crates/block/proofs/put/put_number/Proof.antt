@@ -1,11 +1,8 @@
-use Rattle.block.proofs.PutLaws.{bytes-put}
-use mathlib.Core.Path.{_≡_, refl, sym, ap, _∙_}
-use mathlib.Core.Logic.{⊎-elim}
-use Prim.Native.Nat.{ℕ, zero, suc, _+_, _*_, _-_, _/_, _%_, _^_, _≤_, _<_}
-use native.Mathlib.Omega.{arith}
-use native.Mathlib.Numerals.{add-one}
-use lib.ListN.{length, getD}
+-- `put::put_number` meets its contract: each shift brings the next byte down.
+-- Assumes nothing.
+use Prim.Native.Nat.{_-_}
 use borrow.Author.Needs.{needs}
+use Rattle.block.proofs.PutLaws.{bytes-put}
 use Rattle.block.proofs.put.put_number.Statement.{statement}
 use Rattle.block.proofs.put.put_number.Tie as tie
 
@@ -34,7 +31,11 @@ same-length : tie.Need-same-length
 same-length c = search needs
 
 returns : tie.Need-returns
-returns c = bytes-put _ _ _ _ _ _ _ (c .before .before .before .before .before .before .before .before .before .before .before .before .before .before .put-low-byte .ensures) (c .before .before .before .before .before .before .before .before .before .before .put-low-byte2 .ensures) (c .before .before .before .before .before .before .put-low-byte3 .ensures) (c .before .before .put-low-byte4 .ensures)
+returns c =
+    bytes-put _ _ _ _ _ _ _
+    (c .before .before .before .before .before .before .before .before .before .before .before .before .before .before .put-low-byte .ensures)
+    (c .before .before .before .before .before .before .before .before .before .before .put-low-byte2 .ensures)
+    (c .before .before .before .before .before .before .put-low-byte3 .ensures) (c .before .before .put-low-byte4 .ensures)
 
 pub put-number-spec : {M : Type 1} → statement M
 put-number-spec =

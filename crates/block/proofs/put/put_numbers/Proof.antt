@@ -1,9 +1,8 @@
-use mathlib.Core.Path.{_≡_, refl, sym, ap, _∙_}
-use mathlib.Core.Logic.{⊎-elim}
-use Prim.Native.Nat.{ℕ, zero, suc, _+_, _*_, _-_, _/_, _%_, _^_, _≤_, _<_}
+-- `put::put_numbers` meets its contract: the loop has put the first `i` numbers.
+-- Assumes nothing.
+use mathlib.Core.Path.{refl}
+use Prim.Native.Nat.{_-_}
 use native.Mathlib.Omega.{arith}
-use native.Mathlib.Numerals.{add-one}
-use lib.ListN.{length, getD}
 use borrow.Author.Needs.{needs}
 use Rattle.block.specs.Put.{PutSoFar}
 use Rattle.block.proofs.PutLaws.{put-none, put-more, put-all}
@@ -38,7 +37,9 @@ loop-less : tie.Need-loop-less Inv-loop μ-loop
 loop-less c = search needs
 
 loop-again : tie.Need-loop-again Inv-loop μ-loop
-loop-again c = put-more _ _ _ _ _ (c .before .before .before .before .before .before .loop .inv) (omega arith) (c .before .before .put-number .ensures)
+loop-again c =
+    put-more _ _ _ _ _ (c .before .before .before .before .before .before .loop .inv) (omega arith)
+    (c .before .before .put-number .ensures)
 
 same-length : tie.Need-same-length Inv-loop μ-loop
 same-length c = search needs

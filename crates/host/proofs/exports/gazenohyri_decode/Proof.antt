@@ -1,11 +1,9 @@
-use Rattle.host.proofs.FiguresLaws.{refused-block, put-block}
-use mathlib.Core.Path.{_≡_, refl, sym, ap, _∙_}
-use mathlib.Core.Logic.{⊎-elim}
-use Prim.Native.Nat.{ℕ, zero, suc, _+_, _*_, _-_, _/_, _%_, _^_, _≤_, _<_}
+-- `exports::gazenohyri_decode` meets its contract: a block of another length is refused, else it has the values of what was decoded.
+-- Assumes nothing.
+use Prim.Native.Nat.{_-_}
 use native.Mathlib.Omega.{arith}
-use native.Mathlib.Numerals.{add-one}
-use lib.ListN.{length, getD}
 use borrow.Author.Needs.{needs}
+use Rattle.host.proofs.FiguresLaws.{refused-block, put-block}
 use Rattle.host.proofs.exports.gazenohyri_decode.Statement.{statement}
 use Rattle.host.proofs.exports.gazenohyri_decode.Tie as tie
 
@@ -28,7 +26,11 @@ same-length-2 : tie.Need-same-length-2
 same-length-2 c = search needs
 
 returns-2 : tie.Need-returns-2
-returns-2 c = put-block _ _ _ _ _ _ _ _ _ (omega (arith, c .before .before .before .before .before .before .before .before .before .if1 .left)) (c .before .before .before .before .before .before .before .decode .ensures) (c .before .before .before .before .figures-of .ensures) (c .before .before .put-figures .ensures)
+returns-2 c =
+    let decoded = c .before .before .before .before .before .before .before .decode in
+    let long = c .before .before .before .before .before .before .before .before .before .if1 .left in
+    put-block _ _ _ _ _ _ _ _ _ (omega (arith, long)) (decoded .ensures) (c .before .before .before .before .figures-of .ensures)
+    (c .before .before .put-figures .ensures)
 
 pub gazenohyri-decode-spec : {M : Type 1} → statement M
 gazenohyri-decode-spec =

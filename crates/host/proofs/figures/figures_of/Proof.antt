@@ -1,20 +1,17 @@
-use Rattle.host.proofs.FiguresLaws.{answer-case}
-use Rattle.frame.specs.declared.decode.Decoded.the-variants.{Refused, Ended}
-use mathlib.Core.Path.{_≡_, refl, sym, ap, _∙_}
-use mathlib.Core.Logic.{⊎-elim}
-use Prim.Native.Nat.{ℕ, zero, suc, _+_, _*_, _-_, _/_, _%_, _^_, _≤_, _<_}
-use native.Mathlib.Omega.{arith}
-use native.Mathlib.Numerals.{add-one}
-use lib.ListN.{length, getD}
+-- `figures::figures_of` meets its contract: each case's values are those of `figures`.
+-- Assumes nothing.
+use Prim.Native.Nat.{_-_}
 use borrow.Author.Needs.{needs}
+use Rattle.frame.specs.declared.decode.Decoded.the-variants.{Refused, Ended}
+use Rattle.host.proofs.FiguresLaws.{answer-case}
 use Rattle.host.proofs.figures.figures_of.Statement.{statement}
 use Rattle.host.proofs.figures.figures_of.Tie as tie
 
 enum-known-d : tie.Need-enum-known-d
 enum-known-d c = search needs
 
-number-figures-requires : tie.Need-number-figures-requires
-number-figures-requires c κs = search needs
+figures-with-requires : tie.Need-figures-with-requires
+figures-with-requires c κs = search needs
 
 enum-known-d-2 : tie.Need-enum-known-d-2
 enum-known-d-2 c = search needs
@@ -23,7 +20,7 @@ report-figures-requires : tie.Need-report-figures-requires
 report-figures-requires c κs = search needs
 
 returns : tie.Need-returns
-returns c = let g = c .before .before .d .given in answer-case _ _ (Refused (g .0 .0)) (g .1) (c .number-figures .ensures)
+returns c = let g = c .before .before .d .given in answer-case _ _ (Refused (g .0 .0)) (g .1) (c .figures-with .ensures)
 
 returns-2 : tie.Need-returns-2
 returns-2 c = let g = c .before .before .d2 .given in answer-case _ _ (Ended (g .0 .0)) (g .1) (c .report-figures .ensures)
@@ -33,7 +30,7 @@ figures-of-spec =
     tie.close
     (tie.spec
     enum-known-d
-    number-figures-requires
+    figures-with-requires
     enum-known-d-2
     report-figures-requires
     returns

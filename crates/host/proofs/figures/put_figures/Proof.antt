@@ -1,11 +1,8 @@
-use Rattle.rules.specs.Block.{block}
-use mathlib.Core.Path.{_≡_, refl, sym, ap, _∙_}
-use mathlib.Core.Logic.{⊎-elim}
-use Prim.Native.Nat.{ℕ, zero, suc, _+_, _*_, _-_, _/_, _%_, _^_, _≤_, _<_}
-use native.Mathlib.Omega.{arith}
-use native.Mathlib.Numerals.{add-one}
-use lib.ListN.{length, getD}
+-- `figures::put_figures` meets its contract: the five values in the order of `block`.
+-- Assumes nothing.
+use Prim.Native.Nat.{_-_}
 use borrow.Author.Needs.{needs}
+use Rattle.rules.specs.Block.{block}
 use Rattle.host.proofs.figures.put_figures.Statement.{statement}
 use Rattle.host.proofs.figures.put_figures.Tie as tie
 

@@ -1,12 +1,9 @@
-use Rattle.probe.proofs.ProbeLaws.{answer-put}
-use Rattle.word.specs.declared.locate.Answer.the-variants.{Codeword, OnePlace, TwoPlaces, Beyond}
-use mathlib.Core.Path.{_≡_, refl, sym, ap, _∙_}
-use mathlib.Core.Logic.{⊎-elim}
-use Prim.Native.Nat.{ℕ, zero, suc, _+_, _*_, _-_, _/_, _%_, _^_, _≤_, _<_}
-use native.Mathlib.Omega.{arith}
-use native.Mathlib.Numerals.{add-one}
-use lib.ListN.{length, getD}
+-- `said::put_answer` meets its contract, case by case.
+-- Assumes nothing.
+use Prim.Native.Nat.{_-_}
 use borrow.Author.Needs.{needs}
+use Rattle.word.specs.declared.locate.Answer.the-variants.{Codeword, OnePlace, TwoPlaces, Beyond}
+use Rattle.probe.proofs.ProbeLaws.{answer-put}
 use Rattle.probe.proofs.said.put_answer.Statement.{statement}
 use Rattle.probe.proofs.said.put_answer.Tie as tie
 
@@ -38,25 +35,31 @@ same-length : tie.Need-same-length
 same-length c = search needs
 
 returns : tie.Need-returns
-returns c = answer-put _ Codeword _ _ (c .before .before .before .before .enum-told .given .1) (c .before .before .put-places .ensures)
+returns c =
+    answer-put _ Codeword _ _ (c .before .before .before .before .enum-told .given .1) (c .before .before .put-places .ensures)
 
 same-length-2 : tie.Need-same-length-2
 same-length-2 c = search needs
 
 returns-2 : tie.Need-returns-2
-returns-2 c = let g = c .before .before .before .before .before .a .given in answer-put _ (OnePlace (g .0 .0)) _ _ (g .1) (c .before .before .put-places2 .ensures)
+returns-2 c =
+    let g = c .before .before .before .before .before .a .given in
+    answer-put _ (OnePlace (g .0 .0)) _ _ (g .1) (c .before .before .put-places2 .ensures)
 
 same-length-3 : tie.Need-same-length-3
 same-length-3 c = search needs
 
 returns-3 : tie.Need-returns-3
-returns-3 c = let g = c .before .before .before .before .before .a2 .given in answer-put _ (TwoPlaces (g .0 .0) (g .0 .1 .0)) _ _ (g .1) (c .before .before .put-places3 .ensures)
+returns-3 c =
+    let g = c .before .before .before .before .before .a2 .given in
+    answer-put _ (TwoPlaces (g .0 .0) (g .0 .1 .0)) _ _ (g .1) (c .before .before .put-places3 .ensures)
 
 same-length-4 : tie.Need-same-length-4
 same-length-4 c = search needs
 
 returns-4 : tie.Need-returns-4
-returns-4 c = answer-put _ Beyond _ _ (c .before .before .before .before .enum-told2 .given .1) (c .before .before .put-places4 .ensures)
+returns-4 c =
+    answer-put _ Beyond _ _ (c .before .before .before .before .enum-told2 .given .1) (c .before .before .put-places4 .ensures)
 
 pub put-answer-spec : {M : Type 1} → statement M
 put-answer-spec =

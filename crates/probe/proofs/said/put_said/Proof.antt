@@ -1,12 +1,9 @@
-use Rattle.probe.proofs.ProbeLaws.{said-put}
-use Rattle.word.specs.declared.decode.Said.the-variants.{Refused, Answered}
-use mathlib.Core.Path.{_≡_, refl, sym, ap, _∙_}
-use mathlib.Core.Logic.{⊎-elim}
-use Prim.Native.Nat.{ℕ, zero, suc, _+_, _*_, _-_, _/_, _%_, _^_, _≤_, _<_}
-use native.Mathlib.Omega.{arith}
-use native.Mathlib.Numerals.{add-one}
-use lib.ListN.{length, getD}
+-- `said::put_said` meets its contract, case by case.
+-- Assumes nothing.
+use Prim.Native.Nat.{_-_}
 use borrow.Author.Needs.{needs}
+use Rattle.word.specs.declared.decode.Said.the-variants.{Refused, Answered}
+use Rattle.probe.proofs.ProbeLaws.{said-put}
 use Rattle.probe.proofs.said.put_said.Statement.{statement}
 use Rattle.probe.proofs.said.put_said.Tie as tie
 
@@ -26,13 +23,17 @@ same-length : tie.Need-same-length
 same-length c = search needs
 
 returns : tie.Need-returns
-returns c = let g = c .before .before .before .before .before .said .given in said-put _ (Refused (g .0 .0)) _ _ (g .1) (c .before .before .put-places .ensures)
+returns c =
+    let g = c .before .before .before .before .before .said .given in
+    said-put _ (Refused (g .0 .0)) _ _ (g .1) (c .before .before .put-places .ensures)
 
 same-length-2 : tie.Need-same-length-2
 same-length-2 c = search needs
 
 returns-2 : tie.Need-returns-2
-returns-2 c = let g = c .before .before .before .before .before .said2 .given in said-put _ (Answered (g .0 .0)) _ _ (g .1) (c .before .before .put-answer .ensures)
+returns-2 c =
+    let g = c .before .before .before .before .before .said2 .given in
+    said-put _ (Answered (g .0 .0)) _ _ (g .1) (c .before .before .put-answer .ensures)
 
 pub put-said-spec : {M : Type 1} → statement M
 put-said-spec =
