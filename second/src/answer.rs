@@ -12,7 +12,7 @@ pub enum Refusal {
     InputLength,
     /// The output does not have exactly the bytes that n asks for.
     OutputLength,
-    /// The allowance is not 1 to 32.
+    /// No pass is allowed, or more than a caller may allow.
     Allowance,
     /// The data has a spare bit set.
     SpareBits,
@@ -43,7 +43,7 @@ impl fmt::Display for Refusal {
             Refusal::WordLength => "the word length is not 18 to 256",
             Refusal::InputLength => "the input length does not fit the word length",
             Refusal::OutputLength => "the output length does not fit the word length",
-            Refusal::Allowance => "the allowance is not 1 to 32",
+            Refusal::Allowance => "the allowance is out of range",
             Refusal::SpareBits => "the data has a spare bit set",
             Refusal::NotCodewords => "not a frame of codewords",
             Refusal::Erased => "the frame is erased: all its bits are ones",

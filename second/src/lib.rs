@@ -51,7 +51,7 @@ use matrix::Matrix;
 use word::{Tables, CHECK_BITS, LONGEST, PARITY, SHORTEST};
 
 /// The most passes a caller may allow.
-const MOST_PASSES: usize = 32;
+const MOST_PASSES: usize = 200;
 
 /// The tables for all word lengths. Build it once and lend it out.
 #[derive(Clone)]

@@ -75,9 +75,26 @@ fn item_d_is_stuck() {
     let stuck = report(Ending::Stuck, 2, 0, (3, 3));
     // A spare bit, too, comes back as it was received.
     let received = item(&[[0xe0, 0, 0x01], [0xe0, 0, 0], [0xe0, 0, 0]]);
-    assert_eq!(decode(18, 32, &received), (stuck, received.clone()));
+    assert_eq!(decode(18, 200, &received), (stuck, received.clone()));
     assert_eq!(decode(18, 2, &received), (stuck, received));
     assert_eq!(stuck.number(), 7);
+}
+
+/// Row i of 254 rows has the wrong bits i, i + 1 and i + 2. Pass 2 mends the outer two columns on
+/// either side, pass 3 the outer two rows: after pass 2 p + 1 a band of 254 − 4 p rows is left.
+#[test]
+fn a_band_of_254_rows_takes_128_passes() {
+    let mut received = vec![0; 256 * 32];
+    for (i, j) in (0..254).flat_map(|i| (i..i + 3).map(move |j| (i, j))) {
+        received[32 * i + j / 8] ^= 0x80 >> (j % 8);
+    }
+    let repaired = report(Ending::Repaired, 128, 3 * 254, (0, 0));
+    for allowance in [128, 200] {
+        assert_eq!(decode(256, allowance, &received), (repaired, vec![0; 8192]));
+    }
+    // Two rows are left, and in four columns.
+    let spent = report(Ending::Spent, 127, 3 * 252, (2, 4));
+    assert_eq!(decode(256, 127, &received), (spent, received));
 }
 
 #[test]
@@ -182,7 +199,7 @@ fn word_length_is_checked_first() {
 #[test]
 fn allowance_is_checked_after_the_lengths() {
     let code = Code::new();
-    for allowance in [0, 33, usize::MAX] {
+    for allowance in [0, 201, 256, usize::MAX] {
         let mut out = [OLD; 54];
         let refused = code.decode(18, allowance, &[0; 54], &mut out);
         assert_eq!(refused, Err(Refusal::Allowance));
@@ -195,8 +212,9 @@ fn allowance_is_checked_after_the_lengths() {
         assert_eq!(refused.unwrap_err().number(), 2);
         assert_eq!(out, [OLD; 54]);
     }
-    assert_eq!(decode(18, 1, &[0; 54]).0.ending, Ending::Clean);
-    assert_eq!(decode(18, 32, &[0; 54]).0.ending, Ending::Clean);
+    for allowance in [1, 32, 33, 200] {
+        assert_eq!(decode(18, allowance, &[0; 54]).0.ending, Ending::Clean);
+    }
 }
 
 #[test]

@@ -74,11 +74,11 @@ fn a_frame_of_ones_is_erased() {
         (256, frame(256, &"FF".repeat(32))),
     ];
     for (n, frame) in records {
-        for allowance in [1, 2, 32] {
+        for allowance in [1, 2, 32, 33, 200] {
             let line = format!("7\t{}\t{}\t{}\n", n, allowance, frame);
             assert_eq!(answers(&line), erased);
         }
-        for allowance in [0, 33] {
+        for allowance in [0, 201] {
             let line = format!("7\t{}\t{}\t{}\n", n, allowance, frame);
             assert_eq!(answers(&line), "7\trefused\t4\t0\t0\t0\n");
         }
@@ -344,12 +344,12 @@ fn refusals_go_in_order_of_number() {
         (999_999_999, 1, 0, 1),
         (18, 1, 0, 2),
         (18, 0, 0, 2),
-        (18, 33, 53, 2),
+        (18, 201, 53, 2),
         (18, 1, 53, 2),
         (18, 1, 55, 2),
         (256, 1, 8191, 2),
         (18, 0, 54, 4),
-        (18, 33, 54, 4),
+        (18, 201, 54, 4),
         (18, 999_999_999, 54, 4),
         (256, 0, 8192, 4),
     ];
@@ -358,9 +358,11 @@ fn refusals_go_in_order_of_number() {
         let refused = format!("6\trefused\t{}\t0\t0\t0\n", number);
         assert_eq!(answers(&line), refused, "{:?}", (n, allowance, bytes));
     }
-    for (n, allowance, bytes) in [(18, 1, 54), (18, 32, 54), (256, 1, 8192), (256, 32, 8192)] {
-        let line = format!("6\t{}\t{}\t{}", n, allowance, zeros(bytes));
-        assert_eq!(answers(&line), "6\tclean\t0\t0\t0\t0\n");
+    for (n, bytes) in [(18, 54), (256, 8192)] {
+        for allowance in [1, 32, 33, 200] {
+            let line = format!("6\t{}\t{}\t{}", n, allowance, zeros(bytes));
+            assert_eq!(answers(&line), "6\tclean\t0\t0\t0\t0\n");
+        }
     }
 }
 

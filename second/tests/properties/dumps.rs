@@ -50,7 +50,7 @@ fn refused(random: &mut Random) -> (String, String) {
     let (reason, n, allowance, bytes) = match random.below(3) {
         0 => (1, random.below(18), random.below(40), random.below(60)),
         1 => (2, n, random.below(40), random.below(bytes)),
-        _ => (4, n, 33 * random.below(99), bytes),
+        _ => (4, n, 201 * random.below(99), bytes),
     };
     let report = format!("{}\trefused\t{}\t0\t0\t0\n", number, reason);
     (line_of(number, n, allowance, &vec![0; bytes]), report)
@@ -58,7 +58,7 @@ fn refused(random: &mut Random) -> (String, String) {
 
 /// A record whose frame is erased, and the line that reports it.
 fn erased(random: &mut Random) -> (String, String) {
-    let (number, n, allowance) = (random.below(1000), 18 + random.below(20), random.below(33));
+    let (number, n, allowance) = (random.below(1000), 18 + random.below(20), random.below(201));
     let mut frame = pack_square(&vec![vec![true; n]; n]);
     set_spare_bits(random, n, &mut frame);
     let said = match allowance {
