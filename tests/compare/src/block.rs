@@ -166,32 +166,37 @@ impl Block<'_> {
         if case.n <= LONGEST {
             tally.meet("n", case.n);
         }
-        tally.count(match (said.number(), case.entry) {
-            (_, Entry::Row) if said.result == 0 => "NoRow",
+        tally.count(match (said.number, case.entry) {
+            (0, Entry::Row) => "NoRow",
             (_, Entry::Row) => "Row",
             (0, Entry::Encode) => "Encoded",
             (0, Entry::Read) => "Read",
-            (0, Entry::Word | Entry::Locate) => CHANGED[said.passes().min(2) as usize],
+            (0, Entry::Word | Entry::Locate) => CHANGED[said.in_block()[0].min(2) as usize],
             (number @ 1..=6, _) => REFUSED[number as usize],
             (9, _) => "NoCodeword",
             (10, _) => "Number10",
+            (11, _) => "Number11",
             _ => return self.note_frame(case, said, written),
         });
     }
 
     fn note_frame(&mut self, case: &Case, said: &Said, written: &[u8]) {
-        let (tally, passes) = (&mut self.tally, said.passes());
-        tally.reach("passes", passes);
-        tally.reach("bits", said.bits());
+        let (tally, counts) = (&mut self.tally, said.in_block());
+        let (passes, bits) = (counts[1], counts[2]);
+        tally.reach("passes", passes.into());
+        tally.reach("bits", bits.into());
         tally.meet("allowance", case.argument);
-        let (ending, special) = match (said.number(), passes) {
+        if said.number == 0 {
+            tally.meet("repaired after", passes as usize);
+        }
+        let (ending, special) = match (said.number, passes) {
             (0, 0) => ("Clean", ""),
             (0, 1) => ("Repaired", "RepairedInOne"),
             (0, 2) => ("Repaired", "RepairedInTwo"),
-            (0, 10..=32) => ("Repaired", "RepairedLate"),
+            (0, 10..) => ("Repaired", "RepairedLate"),
             (0, _) => ("Repaired", ""),
             (7, 2) => ("Stuck", "StuckInTwo"),
-            (7, 10..=32) => ("Stuck", "StuckLate"),
+            (7, 10..) => ("Stuck", "StuckLate"),
             (7, _) => ("Stuck", ""),
             _ => ("Spent", ""),
         };
@@ -199,7 +204,7 @@ impl Block<'_> {
         if !special.is_empty() {
             tally.count(special);
         }
-        if said.number() == 0 && !written.is_empty() && said.output != written {
+        if said.number == 0 && !written.is_empty() && said.output != written {
             tally.count("WronglyRepaired");
         }
     }

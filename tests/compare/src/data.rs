@@ -31,7 +31,7 @@ pub fn encode(block: &mut Block) {
         let promise = Promise::encoded(&case);
         block.check(case, promise, &[]);
         let case = block.read_case(written.frame.clone());
-        block.check(case, Promise::Exactly(0, written.data), &written.frame);
+        block.check(case, Promise::data(written.data), &written.frame);
     }
 }
 
@@ -59,7 +59,7 @@ pub fn read_spare_bits(block: &mut Block) {
         let mut frame = written.frame.clone();
         damage::set_spare_bits(&mut block.random, block.n, &mut frame);
         let case = block.read_case(frame);
-        block.check(case, Promise::Exactly(0, written.data), &written.frame);
+        block.check(case, Promise::data(written.data), &written.frame);
     }
 }
 

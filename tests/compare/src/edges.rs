@@ -1,25 +1,24 @@
 //! Frames at the edges: counts at their greatest, damage that just can be mended or just can't, and single bits.
 
 use crate::block::Block;
-use crate::case::packed;
 use crate::promise::Promise;
-use shared::bits::{flip_at, has_spare_bits, on_spare_bits, row_mut, square_bytes, CHECK_BITS};
+use shared::bits::{flip_at, has_spare_bits, on_spare_bits, row_mut, square_bytes, CHECK_BITS, MOST_ALLOWED};
 use shared::damage;
 
 /// Decodes a frame: the answer, as its five counts, and the output must be these.
-fn decode(block: &mut Block, allowance: usize, received: &[u8], counts: [u64; 5], output: &[u8]) {
+fn decode(block: &mut Block, allowance: usize, received: &[u8], counts: [usize; 5], output: &[u8]) {
     let case = block.decode_case(allowance, received.to_vec());
-    block.check(case, Promise::Exactly(packed(counts), output.to_vec()), &[]);
+    block.check(case, Promise::frame(counts, output.to_vec()), &[]);
 }
 
 /// Three wrong bits in every row and column. Such a word has no codeword within two: codewords differ in at least 6 places.
 pub fn all_words_bad(block: &mut Block) {
-    let (n, all) = (block.n, block.n as u64);
+    let n = block.n;
     let mut received = block.write_random().frame;
     (0..3 * n).for_each(|place| flip_at(n, &mut received, place / 3, (place / 3 + place % 3) % n));
-    decode(block, 1, &received, [8, 1, 0, all, all], &received);
-    for allowance in (2..=32).step_by(6) {
-        decode(block, allowance, &received, [7, 2, 0, all, all], &received);
+    decode(block, 1, &received, [8, 1, 0, n, n], &received);
+    for allowance in (2..=MOST_ALLOWED).step_by(33) {
+        decode(block, allowance, &received, [7, 2, 0, n, n], &received);
     }
 }
 
@@ -30,29 +29,44 @@ pub fn two_in_every_row(block: &mut Block) {
     for i in 0..n {
         block.random.distinct(2, n).into_iter().for_each(|j| flip_at(n, &mut received, i, j));
     }
-    for allowance in [1, 32] {
-        decode(block, allowance, &received, [0, 1, 2 * n as u64, 0, 0], &written);
+    for allowance in [1, MOST_ALLOWED] {
+        decode(block, allowance, &received, [0, 1, 2 * n, 0, 0], &written);
     }
+}
+
+/// Bands of wrong bits: the widest that n has room for, at the least allowance that mends it, at one less, and at the greatest;
+/// and others.
+pub fn bands(block: &mut Block) {
+    let (n, widest) = (block.n, block.n - 2);
+    let passes = passes_of(widest);
+    let mut all = vec![(widest, passes), (widest, passes - 1), (widest, MOST_ALLOWED)];
+    all.extend((0..2).map(|_| (block.random.within(1, widest), block.random.within(1, passes))));
+    for (rows, allowance) in all {
+        let written = block.write_random().frame;
+        let mut received = written.clone();
+        (0..3 * rows).for_each(|place| flip_at(n, &mut received, place / 3, place / 3 + place % 3));
+        let counts = of_band(rows, allowance);
+        decode(block, allowance, &received, counts, if counts[0] == 0 { &written } else { &received });
+    }
+}
+
+/// How many mend a band of so many rows.
+fn passes_of(rows: usize) -> usize {
+    rows / 2 + 1 + rows % 2
 }
 
 /// Row i of `rows` rows has the wrong bits i, i + 1 and i + 2. Only the outer two columns on either side have less than three.
 /// Pass 2 mends them, pass 3 the outer two rows on either side, and so on: after pass 2 p + 1 a band of rows - 4 p is left.
-pub fn bands(block: &mut Block) {
-    let n = block.n;
-    for (rows, allowance, counts) in [
-        (60, 31, [0, 31, 180, 0, 0]), // four rows left for passes 30 and 31
-        (60, 30, [8, 30, 174, 4, 2]),
-        (62, 32, [0, 32, 186, 0, 0]), // two rows left for pass 32
-        (62, 31, [8, 31, 180, 2, 4]),
-        (63, 32, [8, 32, 186, 3, 1]), // pass 32 leaves one column of three wrong bits
-    ] {
-        if n < 66 {
-            return;
-        }
-        let written = block.write_random().frame;
-        let mut received = written.clone();
-        (0..3 * rows).for_each(|place| flip_at(n, &mut received, place / 3, place / 3 + place % 3));
-        decode(block, allowance, &received, counts, if counts[0] == 0 { &written } else { &received });
+fn of_band(rows: usize, allowance: usize) -> [usize; 5] {
+    let passes = passes_of(rows);
+    if allowance >= passes {
+        return [0, passes, 3 * rows, 0, 0];
+    }
+    let left = rows - 4 * ((allowance - 1) / 2);
+    match allowance % 2 {
+        1 => [8, allowance, 3 * (rows - left), left, left + 2],
+        // The columns that have three wrong bits still.
+        _ => [8, allowance, 3 * (rows - left + 2), left, left - 2],
     }
 }
 
@@ -82,7 +96,7 @@ pub fn just_mended(block: &mut Block) {
             }
             _ => damage::most_of_class(n, &mut received, [lines[0], lines[1]]),
         }
-        let allowance = if kind == 4 { block.random.within(2, 32) } else { 2 };
+        let allowance = if kind == 4 { block.random.within(2, MOST_ALLOWED) } else { 2 };
         let case = block.decode_case(allowance, received);
         let promise = Promise::within_the_class(&case, &written);
         block.check(case, promise, &written);
@@ -102,7 +116,7 @@ pub fn unreadable(block: &mut Block) {
     );
     let mut read = |frame: Vec<u8>, good: bool| {
         let case = block.read_case(frame);
-        let promise = if good { Promise::Exactly(0, data.clone()) } else { Promise::refused(6, &case) };
+        let promise = if good { Promise::data(data.clone()) } else { Promise::refused(6, &case) };
         block.check(case, promise, &written);
     };
     for place in places {

@@ -1,10 +1,10 @@
 //! Erased frames, whose code bits are all ones: what comes before number 10, what after it, and what is next to such a frame.
 
 use crate::block::Block;
-use crate::case::{packed, Case, Entry};
+use crate::case::{Case, Entry, Told};
 use crate::promise::Promise;
 use crate::refusals::{exact, refusal};
-use shared::bits::{bytes_for, clear_spare_bits, flip_at, row_mut, square_bytes, CHECK_BITS, SHORTEST};
+use shared::bits::{bytes_for, clear_spare_bits, flip_at, row_mut, square_bytes, CHECK_BITS, MOST_ALLOWED, SHORTEST};
 use shared::damage;
 use shared::division::Places;
 use shared::random::Random;
@@ -40,7 +40,7 @@ fn with_zero(random: &mut Random, n: usize, (i, j): (usize, usize)) -> Vec<u8> {
 /// Whatever the spare bits and the allowance. Reading, it is 10 also where the ones are no frame.
 pub fn frames(block: &mut Block) {
     for frame in of_ones(&mut block.random, block.n) {
-        for allowance in [1, 2, block.random.within(3, 31), 32] {
+        for allowance in [1, 2, block.random.within(3, MOST_ALLOWED - 1), MOST_ALLOWED] {
             let case = block.decode_case(allowance, frame.clone());
             block.check_refused(case, 10);
         }
@@ -57,7 +57,7 @@ pub fn but_one_bit(block: &mut Block) {
     zeros.extend((0..4).map(|_| (block.random.below(n), block.random.below(n))));
     for zero in zeros {
         let frame = with_zero(&mut block.random, n, zero);
-        for allowance in [1, block.random.within(2, 32)] {
+        for allowance in [1, block.random.within(2, MOST_ALLOWED)] {
             let case = block.decode_case(allowance, frame.clone());
             let promise = of_one_zero(&places, &case, zero);
             block.check(case, promise, &[]);
@@ -75,13 +75,13 @@ fn of_one_zero(places: &Places, case: &Case, (i, j): (usize, usize)) -> Promise 
     if words[0] == Some(Vec::new()) {
         let mut mended = vec![0xff; case.input.len()];
         clear_spare_bits(n, &mut mended);
-        return Promise::Exactly(packed([0, 1, 1, 0, 0]), mended);
+        return Promise::frame([0, 1, 1, 0, 0], mended);
     }
-    let (beyond, all) = (words.iter().all(Option::is_none), n as u64);
+    let beyond = words.iter().all(Option::is_none);
     match case.argument {
         _ if !beyond => Promise::Not(10),
-        1 => Promise::Exactly(packed([8, 1, 0, all, all]), case.input.clone()),
-        _ => Promise::Exactly(packed([7, 2, 0, all, all]), case.input.clone()),
+        1 => Promise::frame([8, 1, 0, n, n], case.input.clone()),
+        _ => Promise::frame([7, 2, 0, n, n], case.input.clone()),
     }
 }
 
@@ -100,9 +100,10 @@ pub fn within_the_class(block: &mut Block) {
     add_crossings(n, &mut written, &ones, &ones);
     block.divide(&data, &written, true);
     let case = block.encode_case(data);
-    block.check(case, Promise::Exactly(0, written.clone()), &[]);
+    let promise = Promise::told(Entry::Encode, Told::number(0), written.clone());
+    block.check(case, promise, &[]);
     for frame in of_ones(&mut block.random, n) {
-        for allowance in [1, 2, 32] {
+        for allowance in [1, 2, MOST_ALLOWED] {
             let case = block.decode_case(allowance, frame.clone());
             block.check_refused(case, 10);
         }
@@ -131,14 +132,14 @@ fn spoiled(block: &mut Block, written: &[u8], lost: [usize; 2]) {
         all.push(noise);
     }
     for received in all {
-        let allowance = block.random.within(2, 32);
+        let allowance = block.random.within(2, MOST_ALLOWED);
         let case = block.decode_case(allowance, received);
         let promise = Promise::within_the_class(&case, written);
         block.check(case, promise, written);
     }
     // The last, with a zero where a one was written: a third row has three wrong bits, so it is not of the class.
     let received = with_zero(&mut block.random, n, (other, other));
-    let case = block.decode_case(32, received);
+    let case = block.decode_case(MOST_ALLOWED, received);
     block.check(case, Promise::Not(10), written);
 }
 
@@ -154,7 +155,7 @@ pub fn data(block: &mut Block) {
         block.check(case, promise, &[]);
         let written = block.write(data);
         let case = block.read_case(written.frame.clone());
-        block.check(case, Promise::Exactly(0, written.data), &written.frame);
+        block.check(case, Promise::data(written.data), &written.frame);
     }
     for data in forms {
         let case = block.encode_case(data);
@@ -189,7 +190,7 @@ pub fn refusals(block: &mut Block) {
 
 fn refusals_of(block: &mut Block, entry: Entry, n: usize, (input, output): (usize, usize)) {
     let size = if entry == Entry::Encode { block.n - CHECK_BITS } else { block.n };
-    let allowances = if entry == Entry::Decode { &[0, 1, 32, 33][..] } else { &[0] };
+    let allowances = if entry == Entry::Decode { &[0, 1, MOST_ALLOWED, MOST_ALLOWED + 1][..] } else { &[0] };
     for &allowance in allowances {
         for spare in [true, false] {
             let mut ones = vec![0xff; input];

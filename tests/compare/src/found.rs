@@ -2,7 +2,7 @@
 
 use crate::case::{Case, Entry, Said};
 use second::Code;
-use shared::bits::{bit, flip, ones, xor};
+use shared::bits::{bit, flip, ones, xor, MOST_ALLOWED};
 use shared::run::shrink;
 use shared::score::hex;
 use shared::tally::Fault;
@@ -62,7 +62,7 @@ impl Found {
                 differs(found, case)
             },
         );
-        let arguments = 0..best.case.argument.min(33);
+        let arguments = 0..best.case.argument.min(MOST_ALLOWED + 1);
         let lower = arguments.map(|argument| best.case.clone().with(argument)).find_map(|case| differs(&best, case));
         lower.unwrap_or(best)
     }
@@ -80,31 +80,23 @@ impl Found {
             Entry::Row => format!("row\tn {}\ti {}\tframe {}", n, case.argument, input),
         };
         let (proved, second) = (said(case, &self.proved), said(case, &self.second));
-        let bytes = case.output.len();
-        format!(
-            "# {}, with an output of {} bytes:\n{}\n#   proved: {}\n#   second: {}",
-            what, bytes, record, proved, second
-        )
+        let lent = match case.entry.block_bytes() {
+            0 => format!("an output of {} bytes", case.output.len()),
+            _ => format!("an output of {} bytes and a block of {}", case.output.len(), case.block.len()),
+        };
+        format!("# {}, with {}:\n{}\n#   proved: {}\n#   second: {}", what, lent, record, proved, second)
     }
 }
 
 fn said(case: &Case, said: &Said) -> String {
-    let field = |low: u32, bits: u32| said.result >> low & ((1 << bits) - 1);
-    let result = match case.entry {
-        Entry::Encode | Entry::Read => format!("number {}", said.result),
-        Entry::Decode => format!(
-            "number {}, passes {}, bits {}, bad rows {}, bad columns {}",
-            said.number(),
-            said.passes(),
-            said.bits(),
-            field(32, 16),
-            field(48, 16)
-        ),
-        Entry::Word | Entry::Locate => {
-            let places = [field(16, 16), field(32, 16)];
-            format!("number {}, places changed {:?}", said.number(), &places[..field(8, 8).min(2) as usize])
-        }
-        Entry::Row => format!("{} bytes", said.result),
+    let returned = match case.entry {
+        Entry::Row => format!("{} bytes", said.number),
+        _ => format!("number {}", said.number),
+    };
+    let block = match case.entry.block_bytes() {
+        0 => String::new(),
+        _ if said.block == case.block => ", block untouched".to_string(),
+        _ => format!(", block {}", in_block(case.entry, said)),
     };
     let output = match &said.output {
         output if *output == case.output => "untouched".to_string(),
@@ -112,5 +104,16 @@ fn said(case: &Case, said: &Said) -> String {
         output => hex(output),
     };
     let stray = if said.stray { ", and other bytes were written" } else { "" };
-    format!("{}, output {}{}", result, output, stray)
+    format!("{}{}, output {}{}", returned, block, output, stray)
+}
+
+/// The numbers of a block, each with its name.
+fn in_block(entry: Entry, said: &Said) -> String {
+    let names: &[&str] = match entry {
+        Entry::Decode => &["number", "passes", "bits", "bad rows", "bad columns"],
+        _ => &["places changed", "first", "second"],
+    };
+    let numbers: Vec<String> =
+        names.iter().zip(said.in_block()).map(|(name, number)| format!("{} {}", name, number)).collect();
+    numbers.join(", ")
 }

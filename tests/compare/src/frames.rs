@@ -1,11 +1,11 @@
 //! Decoding of whole frames.
 
 use crate::block::{Block, Kind};
-use crate::case::packed;
 use crate::kinds::kind;
 use crate::promise::Promise;
 use second::Code;
-use shared::bits::{row_mut, square_bytes};
+use shared::bits::{row_mut, square_bytes, MOST_ALLOWED};
+use shared::chain::{Chain, SHORTEST_CHAIN, SPENT_CHAIN};
 use shared::damage;
 use shared::division::Places;
 use shared::random::Random;
@@ -13,12 +13,15 @@ use shared::written::{self, add_crossings, six_places};
 
 type Allowance = fn(&mut Random) -> usize;
 
-/// 1 to 32, the small ones more often.
+/// All that are permitted, the small ones and those at edges more often. 32 was the greatest once.
 fn allowance(random: &mut Random) -> usize {
-    match random.below(10) {
-        0..=4 => random.within(1, 4),
-        5..=7 => random.within(5, 8),
-        _ => random.within(1, 32),
+    const EDGES: [usize; 6] = [1, 2, 32, 33, MOST_ALLOWED - 1, MOST_ALLOWED];
+    match random.below(20) {
+        0..=9 => random.within(1, 4),
+        10..=15 => random.within(5, 8),
+        16..=17 => random.within(9, 32),
+        18 => EDGES[random.below(EDGES.len())],
+        _ => random.within(1, MOST_ALLOWED),
     }
 }
 
@@ -111,7 +114,7 @@ pub fn scattered() -> Vec<Kind> {
 
 /// Damage made to lead the decoder somewhere.
 pub fn made() -> Vec<Kind> {
-    let two_or_more: Allowance = |random| random.within(2, 32);
+    let two_or_more: Allowance = |random| random.within(2, MOST_ALLOWED);
     vec![
         // Up to two rows of anything, up to two wrong bits in each other row.
         allowed(
@@ -145,7 +148,7 @@ pub fn made() -> Vec<Kind> {
 
 /// Damage made of codewords with just six ones, and chains, sometimes beside three rows and columns that nothing mends.
 pub fn tied() -> Vec<Kind> {
-    let mostly_all: Allowance = |random| if random.below(2) == 0 { 32 } else { random.within(1, 32) };
+    let mostly_all: Allowance = |random| if random.once_in(2) { MOST_ALLOWED } else { random.within(1, MOST_ALLOWED) };
     vec![
         allowed(
             "frames, chains that take many passes",
@@ -160,12 +163,35 @@ pub fn tied() -> Vec<Kind> {
                 }
             },
         ),
+        Kind { least: 12 * 239, ..kind("frames, one word freed a pass", 2, "Repaired RepairedLate Spent", chains) },
         Kind {
             lengths: 31..=256,
             least: 8 * 226,
             ..kind("frames, sixteen bits of another frame", 8, "WronglyRepaired Spent", sixteen_bits)
         },
     ]
+}
+
+/// Chains, each at the least allowance that repairs it, at one less, at the greatest, and at another. Of each n the longest that
+/// it has room for, and others; of all n together every length, up to one that no allowance repairs.
+fn chains(block: &mut Block) {
+    let (n, count) = (block.n, block.count);
+    let (places, most) = (Places::new(n), SPENT_CHAIN.min(2 * n));
+    let lengths = most - SHORTEST_CHAIN + 1;
+    let others = (0..count).map(|index| SHORTEST_CHAIN + (count * n + index) % lengths);
+    for length in others.chain([most]) {
+        let chain = Chain::new(&mut block.random, &places, n, length);
+        let enough = chain.passes().min(MOST_ALLOWED);
+        for allowance in [enough, enough - 1, MOST_ALLOWED, block.random.within(1, enough)] {
+            let written = block.write_random().frame;
+            let mut received = written.clone();
+            chain.spoil(&mut received);
+            let counts = chain.decoded(allowance);
+            let output = if counts[0] == 0 { written.clone() } else { received.clone() };
+            let case = block.decode_case(allowance, received);
+            block.check(case, Promise::frame(counts, output), &written);
+        }
+    }
 }
 
 /// Random bytes, and one byte everywhere.
@@ -200,9 +226,9 @@ fn sixteen_bits(block: &mut Block) {
         let allowance = allowance(&mut block.random);
         let case = block.decode_case(allowance, received.clone());
         let promise = if allowance == 1 {
-            Promise::Exactly(packed([8, 1, 8, 0, 6]), received)
+            Promise::frame([8, 1, 8, 0, 6], received)
         } else {
-            Promise::Exactly(packed([0, 2, 20, 0, 0]), other)
+            Promise::frame([0, 2, 20, 0, 0], other)
         };
         block.check(case, promise, &written);
     }

@@ -1,9 +1,11 @@
 //! The bench items of the rules, with the answers that they give.
 
 use crate::block::Block;
-use crate::case::{packed, Case, Entry};
+use crate::case::{Case, Entry, Told};
 use crate::promise::Promise;
-use shared::bits::{bit, bytes_for, clear_spare_bits, flip, flip_at, on_spare_bits, square_bytes, LONGEST, SHORTEST};
+use shared::bits::{
+    bit, bytes_for, clear_spare_bits, flip, flip_at, on_spare_bits, square_bytes, LONGEST, MOST_ALLOWED, SHORTEST,
+};
 
 /// The codeword of 18 that is not zero.
 const TWELVE_ONES: [u8; 3] = [0xb7, 0xb1, 0xc0];
@@ -20,10 +22,10 @@ pub fn items(block: &mut Block) {
     edges(block);
 }
 
-fn decode(block: &mut Block, allowance: usize, frame: Vec<u8>, result: u64, mended: bool) {
+fn decode(block: &mut Block, allowance: usize, frame: Vec<u8>, counts: [usize; 5], mended: bool) {
     let output = if mended { vec![0; 54] } else { frame.clone() };
     let case = Case::new(&mut block.random, Entry::Decode, 18, frame, 54).with(allowance);
-    block.check(case, Promise::Exactly(result, output), &[]);
+    block.check(case, Promise::frame(counts, output), &[]);
 }
 
 /// Each at every allowance, with and without spare bits; and each spare bit alone.
@@ -37,13 +39,13 @@ fn frames(block: &mut Block) {
             on_spare_bits(18, &mut frame, |byte, mask| *byte |= mask & spare);
             frame
         });
-        for allowance in 1..=32 {
-            decode(block, allowance, a.clone(), 0, true);
-            decode(block, allowance, b.clone(), packed([0, 1, 2, 0, 0]), true);
-            decode(block, allowance, last.clone(), packed([0, 1, 1, 0, 0]), true);
+        for allowance in 1..=MOST_ALLOWED {
+            decode(block, allowance, a.clone(), [0; 5], true);
+            decode(block, allowance, b.clone(), [0, 1, 2, 0, 0], true);
+            decode(block, allowance, last.clone(), [0, 1, 1, 0, 0], true);
             let [of_c, of_d, of_ten] = match allowance {
-                1 => [packed([8, 1, 0, 2, 18]), packed([8, 1, 0, 3, 3]), packed([8, 1, 2, 0, 12])],
-                _ => [packed([0, 2, 36, 0, 0]), packed([7, 2, 0, 3, 3]), packed([0, 2, 10, 0, 0])],
+                1 => [[8, 1, 0, 2, 18], [8, 1, 0, 3, 3], [8, 1, 2, 0, 12]],
+                _ => [[0, 2, 36, 0, 0], [7, 2, 0, 3, 3], [0, 2, 10, 0, 0]],
             };
             decode(block, allowance, c.clone(), of_c, allowance > 1);
             decode(block, allowance, d.clone(), of_d, false);
@@ -53,9 +55,9 @@ fn frames(block: &mut Block) {
     for place in (0..18 * 24).filter(|place| place % 24 >= 18) {
         let mut frame = vec![0; 54];
         flip(&mut frame, place);
-        decode(block, 2, frame.clone(), 0, true);
+        decode(block, 2, frame.clone(), [0; 5], true);
         let case = Case::new(&mut block.random, Entry::Read, 18, frame, 1);
-        block.check(case, Promise::Exactly(0, vec![0]), &[]);
+        block.check(case, Promise::data(vec![0]), &[]);
     }
 }
 
@@ -63,14 +65,14 @@ fn frames(block: &mut Block) {
 fn erased(block: &mut Block) {
     for spare in [0, 0x3f] {
         let frame = [0xff, 0xff, 0xc0 | spare].repeat(18);
-        for allowance in 0..=33 {
+        for allowance in 0..=MOST_ALLOWED + 1 {
             let case = Case::new(&mut block.random, Entry::Decode, 18, frame.clone(), 54).with(allowance);
-            block.check_refused(case, if (1..=32).contains(&allowance) { 10 } else { 4 });
+            block.check_refused(case, if (1..=MOST_ALLOWED).contains(&allowance) { 10 } else { 4 });
         }
         for place in 0..18 * 18 {
             let mut other = frame.clone();
             flip_at(18, &mut other, place / 18, place % 18);
-            decode(block, 2, other, packed([7, 2, 0, 18, 18]), false);
+            decode(block, 2, other, [7, 2, 0, 18, 18], false);
         }
         let case = Case::new(&mut block.random, Entry::Read, 18, frame, 1);
         block.check_refused(case, 10);
@@ -106,7 +108,7 @@ fn data_bit(block: &mut Block) {
         frame[3 * i..3 * i + 3].copy_from_slice(&TWELVE_ONES);
     }
     let case = Case::new(&mut block.random, Entry::Encode, 18, vec![0x80], 54);
-    block.check(case, Promise::Exactly(0, frame.clone()), &[]);
+    block.check(case, Promise::told(Entry::Encode, Told::number(0), frame.clone()), &[]);
     // The long division, too, knows this frame from those beside it.
     block.divide(&[0x80], &frame, true);
     for place in 0..8 * frame.len() {
@@ -115,26 +117,25 @@ fn data_bit(block: &mut Block) {
         block.divide(&[0x80], &other, false);
     }
     let case = Case::new(&mut block.random, Entry::Read, 18, frame, 1);
-    block.check(case, Promise::Exactly(0, vec![0x80]), &[]);
+    block.check(case, Promise::data(vec![0x80]), &[]);
 }
 
 fn words(block: &mut Block) {
     let mut last = vec![0; 3];
     flip(&mut last, 17);
-    let one_place = 1 << 8 | 17 << 16;
-    word(block, 18, last, one_place, vec![0; 3]);
-    word(block, 18, vec![0xe0, 0, 0], 9, vec![0xe0, 0, 0]);
+    word(block, 18, last, Told::places(&[17]), vec![0; 3]);
+    word(block, 18, vec![0xe0, 0, 0], Told::number(9), vec![0xe0, 0, 0]);
     for (n, number) in [(256, 0), (255, 9), (254, 9)] {
         let mut ones = vec![0; bytes_for(n)];
         (0..n).for_each(|place| flip(&mut ones, place));
-        word(block, n, ones.clone(), number, ones);
+        word(block, n, ones.clone(), Told::number(number), ones);
     }
 }
 
-fn word(block: &mut Block, n: usize, received: Vec<u8>, result: u64, output: Vec<u8>) {
+fn word(block: &mut Block, n: usize, received: Vec<u8>, told: Told, output: Vec<u8>) {
     let bytes = bytes_for(n);
     let case = Case::new(&mut block.random, Entry::Word, n, received, bytes);
-    block.check(case, Promise::Exactly(result, output), &[]);
+    block.check(case, Promise::told(Entry::Word, told, output), &[]);
 }
 
 /// The first and last n, allowance and length that are accepted, and their neighbours.
@@ -147,7 +148,9 @@ fn edges(block: &mut Block) {
         (18, 0, 54, 4),
         (18, 1, 54, 0),
         (18, 32, 54, 0),
-        (18, 33, 54, 4),
+        (18, 33, 54, 0),
+        (18, 200, 54, 0),
+        (18, 201, 54, 4),
         (18, 2, 53, 2),
         (18, 2, 55, 2),
     ];
@@ -155,7 +158,7 @@ fn edges(block: &mut Block) {
         let case = Case::new(&mut block.random, Entry::Decode, n, vec![0; len], len);
         let case = case.with(allowance);
         let promise = match number {
-            0 => Promise::Exactly(0, vec![0; len]),
+            0 => Promise::frame([0; 5], vec![0; len]),
             _ => Promise::refused(number, &case),
         };
         block.check(case, promise, &[]);

@@ -92,7 +92,7 @@ fn edges_and_refusals() -> Vec<Kind> {
         // At the edges.
         whole("frames, every word bad", 7 * LENGTHS, "Stuck Spent", edges::all_words_bad),
         whole("frames, two wrong bits in every row", 2 * LENGTHS, "RepairedInOne", edges::two_in_every_row),
-        Kind { lengths: 66..=256, ..whole("frames, 30 to 32 passes", 5 * 191, "RepairedLate Spent", edges::bands) },
+        whole("frames, bands of wrong bits", 5 * LENGTHS, "RepairedLate Spent", edges::bands),
         whole("frames, just mended", 5 * LENGTHS, "RepairedInOne RepairedInTwo", edges::just_mended),
         whole("reading frames with one wrong bit", 11 * LENGTHS, "Number6 Read", edges::unreadable),
         Kind { lengths: 255..=256, ..whole("data with one spare bit set", 1915, "Number5", edges::each_spare_bit) },
@@ -100,7 +100,9 @@ fn edges_and_refusals() -> Vec<Kind> {
         whole("refusals of encode", 100 * LENGTHS, "Number1 Number2 Number3 Number5", refusals::encode),
         whole("refusals of read", 100 * LENGTHS, "Number1 Number2 Number3 Number6", refusals::read),
         whole("refusals of decode", 500 * LENGTHS, "Number1 Number2 Number3 Number4", refusals::decode),
+        whole("refusals of decode by its block", 192 * LENGTHS, "Number11", refusals::block_of_decode),
+        whole("refusals of words by their block", 126 * LENGTHS, "Number11", refusals::block_of_probes),
         whole("refusals of row", 70 * LENGTHS, "Row NoRow", refusals::row),
-        Kind { lengths: 18..=18, ..whole("bench items of the rules", 1347, "", items::items) },
+        Kind { lengths: 18..=18, ..whole("bench items of the rules", 3701, "", items::items) },
     ]
 }

@@ -5,9 +5,8 @@
 //! the four columns are refused. The pass over columns takes the two added columns back.
 
 use crate::block::Block;
-use crate::case::packed;
 use crate::promise::Promise;
-use shared::bits::flip_at;
+use shared::bits::{flip_at, MOST_ALLOWED};
 use shared::damage;
 use shared::division::Places;
 use shared::random::Random;
@@ -30,24 +29,24 @@ pub fn knots(block: &mut Block) {
         let few = index > 0 && random.once_in(3);
         let knots = if few { random.within(1, most) } else { most };
         let short = index > 0 && random.once_in(3);
-        let allowance = if short { random.within(1, 32) } else { 32 };
+        let allowance = if short { random.within(1, MOST_ALLOWED) } else { MOST_ALLOWED };
         let written = block.write_random().frame;
         let mut received = written.clone();
         tie(&mut block.random, &places, n, knots, &mut received);
         if block.random.once_in(4) {
             damage::set_spare_bits(&mut block.random, n, &mut received);
         }
-        let promise = promise(knots as u64, allowance as u64, received.clone());
+        let promise = promise(knots, allowance, received.clone());
         let case = block.decode_case(allowance, received);
         block.check(case, promise, &written);
     }
 }
 
-fn promise(knots: u64, allowance: u64, received: Vec<u8>) -> Promise {
+fn promise(knots: usize, allowance: usize, received: Vec<u8>) -> Promise {
     let (rows, columns) = if allowance % 2 == 1 { (2, 6) } else { (4, 4) };
     // Those that the last pass over rows has added, where none over columns took them back.
     let bits = 4 * knots * (allowance % 2);
-    Promise::Exactly(packed([8, allowance, bits, knots * rows, knots * columns]), received)
+    Promise::frame([8, allowance, bits, knots * rows, knots * columns], received)
 }
 
 /// Damages a frame by so many knots, no two of which share a row or a column.

@@ -3,7 +3,7 @@
 use compare::block::{Kind, Tally};
 use compare::kinds;
 use second::Code;
-use shared::bits::LONGEST;
+use shared::bits::{LONGEST, MOST_ALLOWED};
 use shared::run::Scale;
 use shared::score::{grouped, Score};
 
@@ -50,7 +50,7 @@ fn coverage(score: &mut Score, total: &Tally, scale: Scale) {
     let words = ["Codeword", "OnePlace", "TwoPlaces", "NoCodeword"];
     let frames = ["Clean", "Repaired", "Stuck", "Spent"];
     let special = ["WronglyRepaired", "RepairedLate", "StuckInTwo", "StuckLate"];
-    let refused = ["Number1", "Number2", "Number3", "Number4", "Number5", "Number6", "Number10"];
+    let refused = ["Number1", "Number2", "Number3", "Number4", "Number5", "Number6", "Number10", "Number11"];
     let mut met = |name, kinds: &[&str]| {
         let counts: Vec<String> = kinds.iter().map(|kind| format!("{} {}", kind, grouped(total.of(kind)))).collect();
         score.met(name, kinds.iter().all(|kind| total.of(kind) > 0), &counts.join(", "));
@@ -58,10 +58,13 @@ fn coverage(score: &mut Score, total: &Tally, scale: Scale) {
     met("the four answers for words", &words);
     met("the four endings for frames", &frames);
     met("frames that test the endings", &special);
-    met("the refusals 1 to 6, and erased", &refused);
+    met("the refusals 1 to 6, erased, and the block's", &refused);
     let (passes, bits) = (total.most("passes"), total.most("bits"));
-    let all = total.missing("allowance", 1..=32).is_none() && passes == 32;
-    score.met("every allowance, up to all 32 passes", all, &format!("most passes {}", passes));
+    let all = total.missing("allowance", 1..=MOST_ALLOWED).is_none() && passes == MOST_ALLOWED as u64;
+    score.met("every allowance, up to all passes of the greatest", all, &format!("most passes {}", passes));
+    let missing = total.missing("repaired after", 0..=MOST_ALLOWED).filter(|_| !scale.quick);
+    let counts = missing.map_or(String::new(), |passes| format!("not after {}", passes));
+    score.met("frames that are good after each number of passes", missing.is_none(), &counts);
     let many = scale.quick || bits >= 4 * LONGEST as u64 - 4;
     score.met("as many bits as the promise allows", many, &format!("most bits {}", grouped(bits)));
     let sum = |kinds: &[&str]| kinds.iter().map(|kind| total.of(kind)).sum::<u64>();

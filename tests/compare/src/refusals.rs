@@ -1,9 +1,11 @@
 //! Bad arguments, one reason or several at once: the output must stay untouched. And row i of a frame.
 
 use crate::block::Block;
-use crate::case::{Case, Entry};
+use crate::case::{Case, Entry, Told};
 use crate::promise::Promise;
-use shared::bits::{all_ones, bytes_for, has_spare_bits, row as row_of, square_bytes, CHECK_BITS, LONGEST, SHORTEST};
+use shared::bits::{
+    all_ones, bytes_for, has_spare_bits, row as row_of, square_bytes, CHECK_BITS, LONGEST, MOST_ALLOWED, SHORTEST,
+};
 
 pub fn encode(block: &mut Block) {
     refusals(block, Entry::Encode);
@@ -49,8 +51,11 @@ fn around(len: usize, other: usize) -> [usize; 6] {
     [len, len - 1, len + 1, 0, 2 * len, other]
 }
 
-/// The first check that applies, for numbers 1 to 5, and then 10.
+/// The first check that applies: for number 11, for 1 to 5, and then for 10.
 pub fn refusal(case: &Case) -> Option<u64> {
+    if case.block.len() != case.entry.block_bytes() {
+        return Some(11);
+    }
     if !(SHORTEST..=LONGEST).contains(&case.n) {
         return Some(1);
     }
@@ -58,7 +63,7 @@ pub fn refusal(case: &Case) -> Option<u64> {
     let reasons = [
         (2, case.input.len() != input),
         (3, case.output.len() != output),
-        (4, case.entry == Entry::Decode && !(1..=32).contains(&case.argument)),
+        (4, case.entry == Entry::Decode && !(1..=MOST_ALLOWED).contains(&case.argument)),
         (5, case.entry == Entry::Encode && has_spare_bits(case.n - CHECK_BITS, &case.input)),
     ];
     let first = reasons.iter().find(|(_, applies)| *applies).map(|&(number, _)| number);
@@ -81,7 +86,8 @@ fn refusals(block: &mut Block, entry: Entry) {
     let allowances = match entry {
         Entry::Decode => {
             let large = [65537, (u32::MAX as usize).wrapping_add(2), usize::MAX / 2 + 1, usize::MAX];
-            [&[1, 2, 31, 32, 0, 33, 34, 255, 256, 257, 258, 288], &large[..]].concat()
+            let most = MOST_ALLOWED;
+            [&[1, 2, 32, most, 0, 33, most + 1, most + 2, 256, 257, 258, 256 + most], &large[..]].concat()
         }
         _ => vec![0],
     };
@@ -112,12 +118,60 @@ fn check(block: &mut Block, entry: Entry, n: usize, lengths: (usize, usize), all
     block.check(case, promise, &[]);
 }
 
+/// Blocks of another length than the entry point asks for, whatever else is good or bad.
+pub fn block_of_decode(block: &mut Block) {
+    let (good, bad) = (square_bytes(block.n), [MOST_ALLOWED + 1, 0]);
+    for n in [block.n, SHORTEST - 1, LONGEST + 1] {
+        for lengths in [(good, good), (good - 1, good), (good, good + 1), (0, 0)] {
+            for allowance in [block.random.within(1, MOST_ALLOWED), bad[block.random.below(2)]] {
+                for block_bytes in [0, 1, 4, 12, 19, 21, 24, 40] {
+                    check_block(block, (Entry::Decode, n, allowance), lengths, block_bytes);
+                }
+            }
+        }
+    }
+}
+
+/// The same for the probes of words and of checks.
+pub fn block_of_probes(block: &mut Block) {
+    let good = bytes_for(block.n);
+    for block_bytes in [0, 1, 4, 11, 13, 20, 24] {
+        for n in [block.n, SHORTEST - 1, LONGEST + 1] {
+            for lengths in [(good, good), (good - 1, good), (good, good + 1), (0, 0)] {
+                check_block(block, (Entry::Word, n, 0), lengths, block_bytes);
+            }
+            for checks in [block.random.below(1 << CHECK_BITS), 1 << CHECK_BITS] {
+                check_block(block, (Entry::Locate, n, checks), (0, 0), block_bytes);
+            }
+        }
+    }
+}
+
+/// What is received is zero, all ones, or random.
+fn check_block(
+    block: &mut Block,
+    (entry, n, argument): (Entry, usize, usize),
+    (input, output): (usize, usize),
+    block_bytes: usize,
+) {
+    let random = &mut block.random;
+    let input = match random.below(3) {
+        0 => vec![0; input],
+        1 => vec![0xff; input],
+        _ => random.bytes(input),
+    };
+    let lent = random.bytes(block_bytes);
+    let case = Case::new(random, entry, n, input, output).with(argument).with_block(lent);
+    block.check_refused(case, 11);
+}
+
 pub fn every_row(block: &mut Block) {
     let n = block.n;
     let frame = block.random.bytes(square_bytes(n));
     for i in 0..n {
         let case = block.case(Entry::Row, frame.clone(), bytes_for(n)).with(i);
-        let promise = Promise::Exactly(bytes_for(n) as u64, row_of(n, &frame, i).to_vec());
+        let told = Told::number(bytes_for(n) as u64);
+        let promise = Promise::told(Entry::Row, told, row_of(n, &frame, i).to_vec());
         block.check(case, promise, &[]);
     }
 }
@@ -152,8 +206,8 @@ pub fn row(block: &mut Block) {
     }
 }
 
-fn part_untouched(block: &mut Block, n: usize, frame: Vec<u8>, i: usize, part: usize, result: u64) {
+fn part_untouched(block: &mut Block, n: usize, frame: Vec<u8>, i: usize, part: usize, bytes: u64) {
     let case = Case::new(&mut block.random, Entry::Row, n, frame, part).with(i);
-    let promise = Promise::refused(result, &case);
+    let promise = Promise::refused(bytes, &case);
     block.check(case, promise, &[]);
 }

@@ -1,7 +1,7 @@
 //! Single words.
 
 use crate::block::Block;
-use crate::case::{Case, Entry};
+use crate::case::{Case, Entry, Told};
 use crate::promise::Promise;
 use shared::bits::{bit, bytes_for, flip, ones, spare_mask, xor, CHECK_BITS, LONGEST, SHORTEST};
 use shared::division::Places;
@@ -169,25 +169,21 @@ pub fn checks(block: &mut Block) {
     let (n, every) = (block.n, if block.quick { 1025 } else { ONE_IN });
     let places = Places::new(n);
     for checks in (block.random.below(every)..1 << CHECK_BITS).step_by(every) {
-        let number = match places.wrong(checks / 2, checks % 2 == 1).as_deref() {
-            None => 9,
-            Some(&[first, second]) => 2 << 8 | first << 16 | second << 32,
-            Some(&[place]) => 1 << 8 | place << 16,
-            Some(_) => 0,
-        };
-        check_located(block, n, checks, number as u64);
+        let wrong = places.wrong(checks / 2, checks % 2 == 1);
+        let told = wrong.map_or(Told::number(9), |wrong| Told::places(&wrong));
+        check_located(block, n, checks, told);
     }
     for checks in [1 << CHECK_BITS, 1 << 31, u32::MAX as usize] {
-        check_located(block, n, checks, 2);
+        check_located(block, n, checks, Told::number(2));
     }
     for n in [0, SHORTEST - 1, LONGEST + 1, usize::MAX] {
-        check_located(block, n, 1, 1);
+        check_located(block, n, 1, Told::number(1));
     }
 }
 
-fn check_located(block: &mut Block, n: usize, checks: usize, number: u64) {
+fn check_located(block: &mut Block, n: usize, checks: usize, told: Told) {
     let case = Case::new(&mut block.random, Entry::Locate, n, Vec::new(), 0).with(checks);
-    block.check(case, Promise::Exactly(number, Vec::new()), &[]);
+    block.check(case, Promise::told(Entry::Locate, told, Vec::new()), &[]);
 }
 
 pub fn spare_bits(block: &mut Block) {

@@ -4,6 +4,9 @@ pub const SHORTEST: usize = 18;
 pub const LONGEST: usize = 256;
 pub const CHECK_BITS: usize = 17;
 
+/// The most passes that decode may be allowed.
+pub const MOST_ALLOWED: usize = 200;
+
 /// The least n at which the word of n ones has a codeword within two places, places 2 and 21.
 pub const NEAR_ONES: usize = 80;
 

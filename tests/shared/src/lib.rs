@@ -2,6 +2,7 @@
 //! processors.
 
 pub mod bits;
+pub mod chain;
 pub mod damage;
 pub mod division;
 pub mod random;
