@@ -3,8 +3,10 @@
 use compare::case::{Case, Entry};
 use compare::promise::Promise;
 use second::Code;
-use shared::bits::{flip_at, square_bytes};
+use shared::bits::{flip_at, square_bytes, MOST_ALLOWED};
+use shared::chain::Chain;
 use shared::damage::{lose_row, wrong_bits, Loss};
+use shared::division::Places;
 use shared::random::Random;
 use shared::written::full_frame;
 
@@ -16,7 +18,7 @@ pub struct Item {
     pub make: fn(&Code, &mut Random) -> (Case, Promise),
 }
 
-pub const ITEMS: [Item; 6] = [
+pub const ITEMS: [Item; 7] = [
     Item {
         name: "decode, n = 195, 40 wrong bits",
         seed: 1,
@@ -50,6 +52,18 @@ pub const ITEMS: [Item; 6] = [
         },
     },
     Item {
+        name: "decode, n = 195, 195 passes",
+        seed: 8,
+        make: |code, random| {
+            let written = full_frame(code, random, 195).frame;
+            let mut received = written.clone();
+            let chain = Chain::new(random, &Places::new(195), 195, 200);
+            chain.spoil(&mut received);
+            let case = Case::new(random, Entry::Decode, 195, received, written.len()).with(MOST_ALLOWED);
+            (case, Promise::frame([0, 195, 396, 0, 0], written))
+        },
+    },
+    Item {
         name: "encode, n = 195",
         seed: 4,
         make: |code, random| {
@@ -66,7 +80,7 @@ pub const ITEMS: [Item; 6] = [
             let written = full_frame(code, random, 195);
             let bytes = written.data.len();
             let case = Case::new(random, Entry::Read, 195, written.frame, bytes);
-            (case, Promise::Exactly(0, written.data))
+            (case, Promise::data(written.data))
         },
     },
 ];

@@ -30,8 +30,8 @@ pub fn time(code: &Code, wrong: usize, warm_up: usize, rounds: usize) -> Option<
         if cases.iter().any(|case| case.proved() != case.second(code)) {
             return None;
         }
-        let of_proved = || together(&cases, |case| case.call_proved(&[], &mut []));
-        let of_second = || together(&cases, |case| case.call_second(code, &mut []));
+        let of_proved = || together(&cases, |case, block| case.call_proved(&[], &mut [], block));
+        let of_second = || together(&cases, |case, block| case.call_second(code, &mut [], block));
         let ((ours, said), (theirs, also_said)) = if round % 2 == 0 {
             let first = of_proved();
             (first, of_second())
@@ -62,9 +62,12 @@ fn case(random: &mut Random, places: &Places, wrong: usize) -> Case {
     }
 }
 
-/// The time of a call, and the sum of the answers.
-fn together(cases: &[Case], call: impl Fn(&Case) -> u64) -> (f64, u64) {
+/// The time of a call, and the sum of the numbers, with the blocks of all calls.
+fn together(cases: &[Case], call: impl Fn(&Case, &mut [u8]) -> u64) -> (f64, (u64, Vec<u8>)) {
+    let block_bytes = Entry::Locate.block_bytes();
+    let mut blocks = vec![0; TOGETHER * block_bytes];
     let start = Instant::now();
-    let sum = cases.iter().fold(0, |sum: u64, case| sum.wrapping_add(call(case)));
-    (start.elapsed().as_secs_f64() * 1e6 / TOGETHER as f64, sum)
+    let lent = cases.iter().zip(blocks.chunks_exact_mut(block_bytes));
+    let sum = lent.fold(0, |sum: u64, (case, block)| sum.wrapping_add(call(case, block)));
+    (start.elapsed().as_secs_f64() * 1e6 / TOGETHER as f64, (sum, blocks))
 }

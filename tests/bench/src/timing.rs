@@ -34,9 +34,10 @@ pub fn time(code: &Code, item: &Item, warm_up: usize, frames: usize) -> Option<(
         if said != case.second(code) || !promise.kept(&said) {
             return None;
         }
-        let (mut a, mut b) = (case.output.clone(), case.output.clone());
-        let mut of_proved = || microseconds(|| case.call_proved(&case.input, &mut a));
-        let mut of_second = || microseconds(|| case.call_second(code, &mut b));
+        let mut a = (case.output.clone(), case.block.clone());
+        let mut b = a.clone();
+        let mut of_proved = || microseconds(|| case.call_proved(&case.input, &mut a.0, &mut a.1));
+        let mut of_second = || microseconds(|| case.call_second(code, &mut b.0, &mut b.1));
         let (proved_time, second_time) = if index % 2 == 0 {
             let first = of_proved();
             (first, of_second())
@@ -45,7 +46,7 @@ pub fn time(code: &Code, item: &Item, warm_up: usize, frames: usize) -> Option<(
             (of_proved(), first)
         };
         // The calls that were timed did their work.
-        if a != said.output || b != said.output {
+        if a != b || a != (said.output, said.block) {
             return None;
         }
         if index >= warm_up {

@@ -54,12 +54,6 @@ impl Entry {
         }
     }
 
-    /// The numbers that the block gets, of decode the number that is returned before all others.
-    fn in_block(self, told: Told) -> impl Iterator<Item = u32> {
-        let first = (self == Entry::Decode).then_some(told.number as u32);
-        first.into_iter().chain(told.counts)
-    }
-
     /// What a block holds after the call.
     pub fn block(self, told: Told) -> Vec<u8> {
         let mut block = vec![0; self.block_bytes()];
@@ -67,10 +61,13 @@ impl Entry {
         block
     }
 
-    /// The low byte of each number first.
+    /// The low byte of each number first. In that of decode the number that is returned comes before the others.
     fn fill(self, block: &mut [u8], told: Told) {
-        let numbers = block.chunks_exact_mut(4).zip(self.in_block(told));
-        numbers.for_each(|(bytes, number)| bytes.copy_from_slice(&number.to_le_bytes()));
+        let [a, b, c, d] = told.counts;
+        let all = [told.number as u32, a, b, c, d];
+        let numbers = if self == Entry::Decode { &all[..] } else { &all[1..] };
+        let bytes = block.chunks_exact_mut(4).zip(numbers);
+        bytes.for_each(|(bytes, number)| bytes.copy_from_slice(&number.to_le_bytes()));
     }
 }
 

@@ -156,7 +156,8 @@ pub fn tied() -> Vec<Kind> {
             "RepairedLate StuckLate Spent",
             mostly_all,
             |_, random, n, frame| {
-                let length = random.within(6, (2 * n - 8).min(72));
+                let most = if random.once_in(8) { 2 * n - 8 } else { (2 * n - 8).min(72) };
+                let length = random.within(6, most);
                 damage::chain(random, n, frame, length);
                 if random.once_in(3) {
                     damage::crossing(random, n, frame, 3, 3);
