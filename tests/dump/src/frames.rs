@@ -3,8 +3,10 @@
 use crate::job::REPAIR;
 use crate::records::{bad_bytes, bad_n, length, number, Maker};
 use crate::text::{Expect, Line};
-use shared::bits::{clear_spare_bits, flip_at, follows, on_spare_bits, row_mut, square_bytes, Follows};
+use shared::bits::{clear_spare_bits, flip_at, follows, on_spare_bits, row_mut, square_bytes, Follows, MOST_ALLOWED};
+use shared::chain::{Chain, SHORTEST_CHAIN, SPENT_CHAIN};
 use shared::damage;
+use shared::division::Places;
 use shared::random::Random;
 use shared::score::hex;
 use shared::written::{add_crossings, full_frame};
@@ -16,8 +18,8 @@ pub fn text(number: usize, n: usize, allowance: usize, frame: &[u8]) -> Vec<u8> 
 fn allowance(random: &mut Random) -> usize {
     match random.below(8) {
         0..=5 => random.within(1, 6),
-        6 => random.within(1, 32),
-        _ => [1, 2, 32][random.below(3)],
+        6 => random.within(1, MOST_ALLOWED),
+        _ => [1, 2, 32, 33, MOST_ALLOWED][random.below(5)],
     }
 }
 
@@ -101,7 +103,7 @@ fn erased(maker: &mut Maker, n: usize) -> Line {
     let (number, good, mut frame) = (number(random), allowance(random), ones(random, n));
     match random.below(4) {
         0 => {
-            let bad = [0, 33, 999_999_999][random.below(3)];
+            let bad = [0, MOST_ALLOWED + 1, 999_999_999][random.below(3)];
             Line::refused(&REPAIR, text(number, n, bad, &frame), number, 4)
         }
         1 => {
@@ -112,12 +114,29 @@ fn erased(maker: &mut Maker, n: usize) -> Line {
     }
 }
 
+/// A chain, which each pass frees of one word: repaired, or spent.
+fn chained(maker: &mut Maker, n: usize) -> Line {
+    let mut frame = written(maker, n);
+    let random = &mut maker.random;
+    let length = random.within(SHORTEST_CHAIN, SPENT_CHAIN.min(2 * n));
+    let chain = Chain::new(random, &Places::new(n), n, length);
+    chain.spoil(&mut frame);
+    let enough = chain.passes().min(MOST_ALLOWED);
+    let allowance = [enough, enough - 1, MOST_ALLOWED, random.within(1, enough)][random.below(4)];
+    let [why, passes, bits, rows, columns] = chain.decoded(allowance);
+    let ending = if why == 0 { "repaired" } else { "spent" };
+    let number = number(random);
+    let said = format!("{} {} {} {} {}", ending, passes, bits, rows, columns);
+    Line::says(text(number, n, allowance, &frame), number, &said)
+}
+
 pub fn any(maker: &mut Maker, n: usize) -> Line {
-    match maker.random.below(9) {
+    match maker.random.below(10) {
         0 | 1 => clean(maker, n),
         2..=4 => within_promise(maker, n),
         5 | 6 => past_promise(maker, n),
         7 => erased(maker, n),
+        8 => chained(maker, n),
         _ => random_frame(maker, n),
     }
 }
@@ -131,7 +150,8 @@ pub fn good(maker: &mut Maker, n: usize) -> Line {
 }
 
 pub fn each_sort(maker: &mut Maker, n: usize) -> Vec<Line> {
-    vec![clean(maker, n), within_promise(maker, n), past_promise(maker, n), random_frame(maker, n), erased(maker, n)]
+    let sorts = [clean, within_promise, past_promise, chained, random_frame, erased];
+    sorts.map(|sort| sort(maker, n)).to_vec()
 }
 
 /// A record that is refused: by its n, its length or its allowance. Some of the numbers would do if
@@ -147,7 +167,8 @@ pub fn refused(maker: &mut Maker) -> Line {
         }
         1 => (2, length, any_allowance(random), bad_bytes(random, &REPAIR, length)),
         _ => {
-            let few = [0, 33, 34, 100, 2 + (256 << (8 * random.below(3))), 999_999_999];
+            let lost_bits = 2 + (256 << (8 * random.below(3)));
+            let few = [0, MOST_ALLOWED + 1, MOST_ALLOWED + 2, 255, lost_bits, 999_999_999];
             (4, length, few[random.below(6)], good)
         }
     };
@@ -156,5 +177,5 @@ pub fn refused(maker: &mut Maker) -> Line {
 }
 
 fn any_allowance(random: &mut Random) -> usize {
-    [0, 1, 2, 32, 33, 999_999_999][random.below(6)]
+    [0, 1, 2, MOST_ALLOWED, MOST_ALLOWED + 1, 999_999_999][random.below(6)]
 }

@@ -6,7 +6,10 @@ use crate::job::{Job, REPAIR, WRITE};
 use crate::records;
 use crate::text::{Expect, Input, Line};
 use shared::bits::{bit, clear_spare_bits, flip_at, square_bytes, LONGEST};
+use shared::chain::Chain;
 use shared::damage;
+use shared::division::Places;
+use shared::random::Random;
 use shared::score::hex;
 
 /// At n = 18, the one codeword beside zero.
@@ -69,17 +72,18 @@ fn at_18() -> Vec<Line> {
         line(11, 18, 1, &data_bit_1(), "clean 0 0 0 0"),
         line(12, 18, 1, &spare, "clean 0 0 0 0"),
         line(13, 18, 1, &only_last, "repaired 1 1 0 0"),
-        line(14, 18, 32, &ones(18, true), "erased 0 0 0 0"),
+        line(14, 18, 200, &ones(18, true), "erased 0 0 0 0"),
         line(15, 18, 1, &a, "clean 0 0 0 0"),
-        line(16, 18, 32, &a, "clean 0 0 0 0"),
+        line(16, 18, 200, &a, "clean 0 0 0 0"),
         line(17, 18, 0, &a, "refused 4 0 0 0"),
-        line(18, 18, 33, &a, "refused 4 0 0 0"),
+        line(18, 18, 201, &a, "refused 4 0 0 0"),
         line(19, 18, 2, &a[..53], "refused 2 0 0 0"),
         line(20, 18, 2, &[&a[..], &[0]].concat(), "refused 2 0 0 0"),
-        line(21, 18, 33, &a[..53], "refused 2 0 0 0"),
-        line(22, 257, 33, &a, "refused 1 0 0 0"),
+        line(21, 18, 201, &a[..53], "refused 2 0 0 0"),
+        line(22, 257, 201, &a, "refused 1 0 0 0"),
         line(23, 18, 2, &ten, "repaired 2 10 0 0"),
         line(24, 18, 1, &ten, "spent 1 2 0 12"),
+        line(25, 18, 33, &a, "clean 0 0 0 0"),
     ]
 }
 
@@ -92,6 +96,30 @@ fn most_bits() -> Vec<Line> {
         line(n, n, 2, &frame, said)
     };
     counts.into_iter().map(record).collect()
+}
+
+/// Chains of 60, 200, 205 and 206 words, which pass after pass frees of one: five passes less than words repair them.
+fn chains() -> Vec<Line> {
+    let mut random = Random::new(&[1]);
+    let mut chain = |n, length| {
+        let mut frame = vec![0; square_bytes(n)];
+        Chain::new(&mut random, &Places::new(n), n, length).spoil(&mut frame);
+        frame
+    };
+    let [short, long, most, spent] = [chain(64, 60), chain(195, 200), chain(256, 205), chain(256, 206)];
+    vec![
+        line(0, 64, 200, &short, "repaired 55 116 0 0"),
+        line(1, 64, 55, &short, "repaired 55 116 0 0"),
+        line(2, 64, 54, &short, "spent 54 110 3 2"),
+        line(3, 64, 33, &short, "spent 33 66 13 14"),
+        line(4, 64, 32, &short, "spent 32 64 14 14"),
+        line(5, 195, 200, &long, "repaired 195 396 0 0"),
+        line(6, 195, 194, &long, "spent 194 390 3 2"),
+        line(7, 256, 200, &most, "repaired 200 406 0 0"),
+        line(8, 256, 199, &most, "spent 199 400 2 3"),
+        line(9, 256, 200, &spent, "spent 200 402 3 2"),
+        line(10, 256, 201, &spent, "refused 4 0 0 0"),
+    ]
 }
 
 /// Ones are erased, whatever the spare bits, but not at a bad allowance or length. With the last bit zero they are decoded: at
@@ -107,8 +135,8 @@ fn of_ones(n: usize) -> Vec<Line> {
     for spare in [true, false].into_iter().take(if n == 256 { 1 } else { 2 }) {
         let frame = ones(n, spare);
         lines.push(line(999_999_999, n, 1, &frame, "erased 0 0 0 0"));
-        lines.push(line(0, n, 32, &frame, "erased 0 0 0 0"));
-        lines.push(line(1, n, if spare { 0 } else { 33 }, &frame, "refused 4 0 0 0"));
+        lines.push(line(0, n, 200, &frame, "erased 0 0 0 0"));
+        lines.push(line(1, n, if spare { 0 } else { 201 }, &frame, "refused 4 0 0 0"));
         lines.push(line(2, n, 2, &frame[1..], "refused 2 0 0 0"));
         let mut short = frame;
         flip_at(n, &mut short, n - 1, n - 1);
@@ -172,7 +200,7 @@ fn inputs(job: &'static Job, parts: Vec<Vec<Line>>) -> Vec<Input> {
 }
 
 pub fn decoded() -> Vec<Input> {
-    let mut parts = vec![example(), at_18(), most_bits()];
+    let mut parts = vec![example(), at_18(), most_bits(), chains()];
     parts.extend([18, 20, 195, 256].map(of_ones));
     inputs(&REPAIR, parts)
 }

@@ -100,7 +100,7 @@ fn coverage(job: &Job, score: &mut Score, total: &Tally, scale: Scale) {
     met("bad lines of 7 digits", most >= 1_000_000, &grouped(most));
     if job.wrong_bits > 0 {
         let most = ["passes", "bits"].map(|what| total.most(what));
-        met("passes of 2 digits, bits of 4", most[0] >= 10 && most[1] >= 1000, &most.map(grouped).join(", "));
+        met("passes of 3 digits, bits of 4", most[0] >= 100 && most[1] >= 1000, &most.map(grouped).join(", "));
     }
 }
 

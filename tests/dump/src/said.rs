@@ -1,6 +1,6 @@
 //! The lines of a report, and those of a dump that was written.
 
-use shared::bits::{square_bytes, LONGEST, SHORTEST};
+use shared::bits::{square_bytes, LONGEST, MOST_ALLOWED, SHORTEST};
 
 /// What a line says of a record.
 pub struct Said {
@@ -34,9 +34,9 @@ fn possible(ending: &str, counts: [usize; 4]) -> bool {
     let [passes, bits, rows, columns] = counts;
     match ending {
         "clean" | "erased" => counts == [0; 4],
-        "repaired" => (1..=32).contains(&passes) && bits > 0 && rows == 0 && columns == 0,
-        "stuck" => (2..=32).contains(&passes) && rows + columns > 0,
-        "spent" => (1..=32).contains(&passes) && rows + columns > 0,
+        "repaired" => (1..=MOST_ALLOWED).contains(&passes) && bits > 0 && rows == 0 && columns == 0,
+        "stuck" => (2..=MOST_ALLOWED).contains(&passes) && rows + columns > 0,
+        "spent" => (1..=MOST_ALLOWED).contains(&passes) && rows + columns > 0,
         "refused" => [1, 2, 4].contains(&passes) && counts[1..] == [0; 3],
         _ => false,
     }
