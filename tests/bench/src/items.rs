@@ -10,10 +10,16 @@ use shared::division::Places;
 use shared::random::Random;
 use shared::written::full_frame;
 
+pub const FRAMES: usize = 301;
+/// Where a frame takes many passes.
+pub const FEW: usize = 31;
+
 pub struct Item {
     pub name: &'static str,
     /// Of the frames' random numbers.
     pub seed: u64,
+    /// So many are timed.
+    pub frames: usize,
     /// A new case, on another random frame each time, and the answer it must get.
     pub make: fn(&Code, &mut Random) -> (Case, Promise),
 }
@@ -22,6 +28,7 @@ pub const ITEMS: [Item; 7] = [
     Item {
         name: "decode, n = 195, 40 wrong bits",
         seed: 1,
+        frames: FRAMES,
         make: |code, random| {
             decode(code, random, 195, |random, frame| {
                 wrong_bits(random, 195, frame, 40);
@@ -31,6 +38,7 @@ pub const ITEMS: [Item; 7] = [
     Item {
         name: "decode, n = 195, two wrong bits in every row",
         seed: 6,
+        frames: FRAMES,
         make: |code, random| {
             decode(code, random, 195, |random, frame| {
                 for i in 0..195 {
@@ -39,10 +47,16 @@ pub const ITEMS: [Item; 7] = [
             })
         },
     },
-    Item { name: "decode, n = 195, clean", seed: 2, make: |code, random| decode(code, random, 195, |_, _| {}) },
+    Item {
+        name: "decode, n = 195, clean",
+        seed: 2,
+        frames: FRAMES,
+        make: |code, random| decode(code, random, 195, |_, _| {}),
+    },
     Item {
         name: "decode, n = 256, two rows lost",
         seed: 3,
+        frames: FRAMES,
         make: |code, random| {
             decode(code, random, 256, |random, frame| {
                 for i in random.distinct(2, 256) {
@@ -54,6 +68,7 @@ pub const ITEMS: [Item; 7] = [
     Item {
         name: "decode, n = 195, 195 passes",
         seed: 8,
+        frames: FEW,
         make: |code, random| {
             let written = full_frame(code, random, 195).frame;
             let mut received = written.clone();
@@ -66,6 +81,7 @@ pub const ITEMS: [Item; 7] = [
     Item {
         name: "encode, n = 195",
         seed: 4,
+        frames: FRAMES,
         make: |code, random| {
             let written = full_frame(code, random, 195);
             let case = Case::new(random, Entry::Encode, 195, written.data, square_bytes(195));
@@ -76,6 +92,7 @@ pub const ITEMS: [Item; 7] = [
     Item {
         name: "read, n = 195",
         seed: 5,
+        frames: FRAMES,
         make: |code, random| {
             let written = full_frame(code, random, 195);
             let bytes = written.data.len();

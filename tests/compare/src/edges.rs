@@ -34,14 +34,13 @@ pub fn two_in_every_row(block: &mut Block) {
     }
 }
 
-/// Bands of wrong bits: the widest that n has room for, at the least allowance that mends it, at one less, and at the greatest;
-/// and others.
+/// Bands of wrong bits: the widest that n has room for, at the least allowance that mends it and at one less; and two others.
 pub fn bands(block: &mut Block) {
     let (n, widest) = (block.n, block.n - 2);
     let passes = passes_of(widest);
-    let mut all = vec![(widest, passes), (widest, passes - 1), (widest, MOST_ALLOWED)];
-    all.extend((0..2).map(|_| (block.random.within(1, widest), block.random.within(1, passes))));
-    for (rows, allowance) in all {
+    let other = (block.random.within(1, widest), block.random.within(1, passes));
+    let greatest = (block.random.within(1, widest), MOST_ALLOWED);
+    for (rows, allowance) in [(widest, passes), (widest, passes - 1), other, greatest] {
         let written = block.write_random().frame;
         let mut received = written.clone();
         (0..3 * rows).for_each(|place| flip_at(n, &mut received, place / 3, place / 3 + place % 3));

@@ -1,7 +1,7 @@
 //! Decoding of whole frames.
 
 use crate::block::{Block, Kind};
-use crate::kinds::kind;
+use crate::kinds::{kind, whole};
 use crate::promise::Promise;
 use second::Code;
 use shared::bits::{row_mut, square_bytes, MOST_ALLOWED};
@@ -152,7 +152,7 @@ pub fn tied() -> Vec<Kind> {
     vec![
         allowed(
             "frames, chains that take many passes",
-            32,
+            12,
             "RepairedLate StuckLate Spent",
             mostly_all,
             |_, random, n, frame| {
@@ -164,7 +164,7 @@ pub fn tied() -> Vec<Kind> {
                 }
             },
         ),
-        Kind { least: 12 * 239, ..kind("frames, one word freed a pass", 2, "Repaired RepairedLate Spent", chains) },
+        whole("frames, one word freed a pass", 4 * 334, "Repaired RepairedLate Spent", chains),
         Kind {
             lengths: 31..=256,
             least: 8 * 226,
@@ -173,17 +173,21 @@ pub fn tied() -> Vec<Kind> {
     ]
 }
 
-/// Chains, each at the least allowance that repairs it, at one less, at the greatest, and at another. Of each n the longest that
-/// it has room for, and others; of all n together every length, up to one that no allowance repairs.
+/// Chains, each at the least allowance that repairs it, at one less, and at two more. Of each n one that goes with it, and of some
+/// the longest that has room; of all n together every length, up to one that no allowance repairs.
 fn chains(block: &mut Block) {
-    let (n, count) = (block.n, block.count);
-    let (places, most) = (Places::new(n), SPENT_CHAIN.min(2 * n));
-    let lengths = most - SHORTEST_CHAIN + 1;
-    let others = (0..count).map(|index| SHORTEST_CHAIN + (count * n + index) % lengths);
-    for length in others.chain([most]) {
+    let n = block.n;
+    let (places, longest) = (Places::new(n), SPENT_CHAIN.min(2 * n));
+    let mut lengths = vec![SHORTEST_CHAIN + n % (longest - SHORTEST_CHAIN + 1)];
+    if longest < SPENT_CHAIN || n % 16 == 0 {
+        lengths.push(longest);
+    }
+    for length in lengths {
         let chain = Chain::new(&mut block.random, &places, n, length);
         let enough = chain.passes().min(MOST_ALLOWED);
-        for allowance in [enough, enough - 1, MOST_ALLOWED, block.random.within(1, enough)] {
+        let others = [MOST_ALLOWED, block.random.within(1, enough)];
+        let allowances = [enough, enough - 1].into_iter().chain(others);
+        for allowance in allowances.take(if block.quick { 2 } else { 4 }) {
             let written = block.write_random().frame;
             let mut received = written.clone();
             chain.spoil(&mut received);

@@ -18,7 +18,7 @@ pub fn kind(
 }
 
 /// A kind that makes as many cases as there are.
-fn whole(name: &'static str, least: u64, answers: &'static str, make: fn(&mut Block)) -> Kind {
+pub fn whole(name: &'static str, least: u64, answers: &'static str, make: fn(&mut Block)) -> Kind {
     Kind { least, ..kind(name, 0, answers, make) }
 }
 
@@ -86,13 +86,13 @@ fn edges_and_refusals() -> Vec<Kind> {
     vec![
         Kind {
             lengths: knots::LENGTHS,
-            least: 6 * 57,
-            ..kind("frames, passes that undo one another", 6, "Spent", knots::knots)
+            least: 3 * 57,
+            ..kind("frames, passes that undo one another", 3, "Spent", knots::knots)
         },
         // At the edges.
         whole("frames, every word bad", 7 * LENGTHS, "Stuck Spent", edges::all_words_bad),
         whole("frames, two wrong bits in every row", 2 * LENGTHS, "RepairedInOne", edges::two_in_every_row),
-        whole("frames, bands of wrong bits", 5 * LENGTHS, "RepairedLate Spent", edges::bands),
+        whole("frames, bands of wrong bits", 4 * LENGTHS, "RepairedLate Spent", edges::bands),
         whole("frames, just mended", 5 * LENGTHS, "RepairedInOne RepairedInTwo", edges::just_mended),
         whole("reading frames with one wrong bit", 11 * LENGTHS, "Number6 Read", edges::unreadable),
         Kind { lengths: 255..=256, ..whole("data with one spare bit set", 1915, "Number5", edges::each_spare_bit) },
