@@ -1,19 +1,19 @@
-//! Frames in which each pass frees one word.
+//! Frames of which each pass frees one word.
 //!
-//! The words of a chain are 1, 2, 3 and so on, by turns a row and a column. The wrong bits are where word k meets word k + 1 and
-//! word k + 3; but word `length` - 7 meets the last word in the place of word k + 3. Then word 1 has two of them, and every other
-//! word three or four. When words 1 to k - 1 are mended, word k has two wrong bits left, where it meets later words, and each
-//! later word has three or four: so pass k mends word k alone.
+//! The words of a chain are numbered from 1 to m, by turns a row and a column. A bit is wrong where word k meets word k + 1, and
+//! one where it meets word k + 3; but word m - 7 meets word m instead, which ties the last word. So word 1 has two wrong bits,
+//! and every other three or four.
 //!
-//! It ends sooner than at the last word, for that one has its third wrong bit from word `length` - 7. Pass `length` - 6 mends it
-//! with its own word, and of the five words between these each that the next pass looks at has two wrong bits: that pass is the
-//! last.
+//! Up to k = m - 7, pass k mends word k alone. The words before it are mended, so it has two wrong bits left, those with later
+//! words; and a word w behind it has three at least: with w - 1, w + 1 and w + 3, or, of the last three, with words m - 7 and
+//! later. Then word m has lost its third, and pass m - 6 mends it along with word m - 6. Of words m - 5, m - 3 and m - 1 those
+//! with m - 4 and m - 2 are left, so pass m - 5 mends all three, and it is the last.
 
 use crate::bits::{flip_at, MOST_ALLOWED};
 use crate::division::Places;
 use crate::random::Random;
 
-/// A shorter chain would have no word from which the last is tied.
+/// A shorter chain would have no word m - 7.
 pub const SHORTEST_CHAIN: usize = 8;
 
 /// The passes are so many less than the words.
@@ -22,10 +22,10 @@ const ENDS_BEFORE: usize = 5;
 /// The shortest chain that is spent at every allowance.
 pub const SPENT_CHAIN: usize = MOST_ALLOWED + ENDS_BEFORE + 1;
 
-/// Where the words of a chain are, and of how many rows and columns the frame is.
+/// The words of a chain, in a frame of n rows.
 pub struct Chain {
     n: usize,
-    /// The row or column of each word; word k stands at k - 1.
+    /// Which row or column each is, from word 1 on.
     words: Vec<usize>,
 }
 
@@ -56,14 +56,13 @@ impl Chain {
         self.words.len() - ENDS_BEFORE
     }
 
-    /// What decoding says at an allowance. Pass k flips the two bits that word k has left, and pass `length` - 6 those of the
-    /// last word as well.
+    /// What decoding says at an allowance: each word that is mended had two wrong bits left.
     pub fn decoded(&self, allowance: usize) -> Counts {
         let (length, passes) = (self.words.len(), self.passes());
         if allowance >= passes {
             return [0, passes, 2 * length - 4, 0, 0];
         }
-        // One pass before the end the last word is mended too.
+        // After pass m - 6 word m is mended too.
         let (mended, last) = if allowance == passes - 1 { (allowance + 1, length - 1) } else { (allowance, length) };
         let [rows, columns] = [1, 0].map(|kind| (allowance + 1..=last).filter(|word| word % 2 == kind).count());
         [8, allowance, 2 * mended, rows, columns]
