@@ -152,7 +152,7 @@ pub fn tied() -> Vec<Kind> {
     vec![
         allowed(
             "frames, chains that take many passes",
-            12,
+            8,
             "RepairedLate StuckLate Spent",
             mostly_all,
             |_, random, n, frame| {
