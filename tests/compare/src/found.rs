@@ -96,6 +96,7 @@ fn said(case: &Case, said: &Said) -> String {
     let block = match case.entry.block_bytes() {
         0 => String::new(),
         _ if said.block == case.block => ", block untouched".to_string(),
+        bytes if said.block.len() != bytes => format!(", block {}", hex(&said.block)),
         _ => format!(", block {}", in_block(case.entry, said)),
     };
     let output = match &said.output {
