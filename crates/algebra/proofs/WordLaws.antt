@@ -10,8 +10,9 @@ use lib.ListN.{length, getD}
 use Rattle.algebra.specs.Xor.{_⊕_}
 use Rattle.algebra.specs.Tables.{tab, num, ones, total}
 use Rattle.algebra.specs.Words.{Word, bit, _⊻_, differ, kept, dot}
+use Rattle.algebra.proofs.Digits.{num-le}
 use Rattle.algebra.proofs.XorLaws.{⊕-swap, ⊕-self, ⊕-zero, zero-⊕, ⊕-assoc}
-use Rattle.algebra.proofs.TableLaws.{num-zero, tab-suc, tab-is, tab-ext, zero-count, count-total, count-most}
+use Rattle.algebra.proofs.TableLaws.{num-zero, tab-suc, tab-is, tab-ext, zero-count, count-total, count-most, total-add}
 
 -- ---- xor of two bits
 
@@ -47,6 +48,13 @@ xor-num true true = omega arith
 xor-num true false = omega arith
 xor-num false true = omega arith
 xor-num false false = omega arith
+
+xor-way : (b c d : Bool) → num (xor b d) ≤ num (xor b c) + num (xor c d)
+unfolding xor
+xor-way true true d = omega arith
+xor-way true false d = omega (arith, num-le (xor true d))
+xor-way false true d = omega (arith, num-le (xor false d))
+xor-way false false d = omega arith
 
 -- ---- words of one length
 
@@ -114,6 +122,14 @@ differ-most n w u lw lu =
       count-total n (λ j. xor (bit w j) (bit u j)),
       count-most n (λ j. xor (bit w j) (bit u j)),
     )
+
+-- by way of a third word they differ in as many places or more
+pub differ-way :
+    (n : ℕ) (w u v : Word) → length w ≡ n → length u ≡ n → length v ≡ n → differ w v ≤ differ w u + differ u v
+differ-way n w u v lw lu lv =
+    rw (differ-bits n w v lw lv, differ-bits n w u lw lu, differ-bits n u v lu lv)
+    (total-add n (λ j. num (xor (bit w j) (bit v j))) (λ j. num (xor (bit w j) (bit u j))) (λ j. num (xor (bit u j) (bit v j)))
+    (λ j l. xor-way (bit w j) (bit u j) (bit v j)))
 
 pub ⊻-ones : (w u : Word) → ones (w ⊻ u) ≤ ones w + ones u
 unfolding _⊻_ ones

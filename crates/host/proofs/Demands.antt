@@ -49,11 +49,12 @@ pub record HostDemands : Type 0 where
   pub other-block :
       (n allowance : ℕ) (received output lent : List ℕ) (r : ℕ) (exit left : List ℕ) → HostDecodes n allowance received output lent r exit left
       → length lent ≢ 20 → (r ≡ 11) × (exit ≡ output) × (left ≡ lent)
-  -- else the block has all 20 bytes written, on a refusal too: the values, of which the number returned is the first
-  pub written-block :
+  -- else the number returned is the first of the block's values, and each is within its bound
+  pub values :
       (n allowance : ℕ) (received output : List ℕ) (r : ℕ) (exit left : List ℕ) → HostDecodes₂₀ n allowance received output r exit left
-      → (left ≡ block (readBlock left)) × (r ≡ readBlock left .number) × Within n (readBlock left)
-  -- demand 2: each keeps its entry point's rule, which names each number beside its reason
+      → (r ≡ readBlock left .number) × Within n (readBlock left)
+  -- demand 2: each keeps its entry point's rule, which names each number beside its reason. Decode's block is written whole, on a
+  -- refusal too
   pub encode :
       (n : ℕ) (message output : List ℕ) (r : ℕ) (exit : List ℕ) → Encodes n message output r exit
       → EncodeRule smallCode n message output r exit
@@ -61,7 +62,7 @@ pub record HostDemands : Type 0 where
       (n : ℕ) (frame output : List ℕ) (r : ℕ) (exit : List ℕ) → Reads n frame output r exit → ReadRule smallCode n frame output r exit
   pub decode :
       (n allowance : ℕ) (received output : List ℕ) (r : ℕ) (exit left : List ℕ) → HostDecodes₂₀ n allowance received output r exit left
-      → (d : Decoded) × (readBlock left ≡ figuresOf d) × DecodeRule smallCode n allowance received output d exit
+      → (d : Decoded) × (left ≡ block (figuresOf d)) × (readBlock left ≡ figuresOf d) × DecodeRule smallCode n allowance received output d exit
   -- encode gives 10 for one message alone, 239 rows of ones at n = 256
   pub one-message :
       (n : ℕ) (message output : List ℕ) (r : ℕ) (exit : List ℕ) → Encodes n message output r exit → ((p : ℕ) → getD message p 0 < 256)
@@ -127,9 +128,8 @@ host-demands = record {
   other-block = λ n allowance received output lent r exit left c h.
       let e = c ∙ promised-small .blocks .other-length n allowance received output lent h in
       (ap (λ x. x .returned) e, ap (λ x. x .frame) e, ap (λ x. x .block) e);
-  written-block = λ n allowance received output r exit left c.
+  values = λ n allowance received output r exit left c.
       let g = got n allowance received output r exit left c in (
-        g .bytes ∙ ap block (sym (g .read)),
         g .number ∙ ap (λ f. f .number) (sym (g .read)),
         rw (g .read) (promised-small .blocks .within n allowance received output),
       );
@@ -138,6 +138,7 @@ host-demands = record {
   decode = λ n allowance received output r exit left c.
       let g = got n allowance received output r exit left c in (
         decodeSaid smallCode n allowance received output,
+        g .bytes,
         g .read,
         rw (g .frame) (promised-small .entries .decodes n allowance received output),
       );

@@ -26,11 +26,6 @@ use Rattle.laws.specs.Located.{located}
 abbrev pub placeValue : Code → ℕ → ℕ → ℕ
 placeValue code n p = getD (values code n) p 0
 
--- the places, if there are any, rise and are the word's own
-abbrev pub Rises : ℕ → Option (List ℕ) → Type 0
-Rises n (some ps) = Rising 0 n ps
-Rises n none = Unit {0}
-
 -- the ⊕ at a word's ones is that over their places
 dot-places :
     (vs : List ℕ) (w : Word) (p : ℕ) (f : ℕ → ℕ) → length w ≡ length vs → ((j : ℕ) → f (p + j) ≡ getD vs j 0)
@@ -53,14 +48,6 @@ module _ (code : Code) (ok : Sound code) (n : ℕ) (h : code .shortest ≤ n) wh
 
   in-word : (e : Word) → length e ≡ length (values code n) → Rising 0 n (placesFrom 0 e)
   in-word e l = subst (λ m. Rising 0 m (placesFrom 0 e)) (zero-add (length e) ∙ l ∙ as-long code ok n h) (places-rising 0 e)
-
-  pub located-rises : (c : ℕ) → Rises n (located code n c)
-  unfolding located
-  located-rises c = go (within (radius code) (values code n) c) (within-says (radius code) (values code n) c)
-    where
-      go : (o : Option (List ℕ)) → Says (λ k. k ≤ radius code) 0 (values code n) c o → Rises n o
-      go (some x) (e, le, oe, de, qe) = subst (Rising 0 n) qe (in-word e le)
-      go none miss = tt
 
   -- where no few places give these checks, nothing is located
   pub none-located :

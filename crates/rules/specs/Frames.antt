@@ -41,7 +41,7 @@ badColumns code n f = badRows code n (transposed n f)
 unfoldable pub isFrame : Code → ℕ → Frame → Bool
 isFrame code n f = eqb (badRows code n f + badColumns code n f) 0
 
--- RULES 6: every bit is one, as a block of flash reads after it was wiped
+-- RULES 6: every bit is one, as flash reads after it was wiped
 unfoldable pub isErased : ℕ → Frame → Bool
 isErased n f = allBelow n (λ i. allBelow n (λ j. cell f i j))
 

@@ -1,4 +1,4 @@
-// Squares of ones, as a block of flash reads after it was wiped.
+// Squares of ones, as flash reads after it was wiped.
 use word::bits::bit;
 use word::sizes::row_bytes;
 ghost use mathlib.Core.Path.{_≡_};

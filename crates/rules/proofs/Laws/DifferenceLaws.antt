@@ -1,13 +1,13 @@
--- In how many bits two frames differ: none from itself, as many either way round, no more than there are, and column by column
--- as many as row by row.
+-- In how many bits two frames differ: none from itself, as many either way round, no more than there are, no more than by way of
+-- a third, and column by column as many as row by row.
 -- Assumes nothing.
 use mathlib.Core.Path.{_≡_, sym, ap₂, _∙_}
 use mathlib.Core.Bool.{xor}
-use Prim.Native.Nat.{ℕ, _*_, _≤_}
+use Prim.Native.Nat.{ℕ, _+_, _*_, _≤_}
 use Rattle.algebra.specs.Tables.{num, total}
 use Rattle.algebra.specs.Words.{differ}
-use Rattle.algebra.proofs.TableLaws.{total-most, total-ext, zero-total, total-swap}
-use Rattle.algebra.proofs.WordLaws.{differ-self, differ-comm, differ-bits, differ-most}
+use Rattle.algebra.proofs.TableLaws.{total-most, total-ext, total-add, zero-total, total-swap}
+use Rattle.algebra.proofs.WordLaws.{differ-self, differ-comm, differ-bits, differ-most, differ-way}
 use Rattle.rules.specs.Frames.{Frame, row, cell, transposed, Square}
 use Rattle.rules.specs.Passes.{differences}
 use Rattle.rules.proofs.Laws.Shape.{transposed-square, transposed-cell}
@@ -25,6 +25,13 @@ pub differences-most : (n : ℕ) (f h : Frame) → Square n f → Square n h →
 unfolding differences
 differences-most n f h sf sh =
     total-most n n (λ i. differ (row f i) (row h i)) (λ i l. differ-most n (row f i) (row h i) (sf .1 i l) (sh .1 i l))
+
+pub differences-way :
+    (n : ℕ) (f g h : Frame) → Square n f → Square n g → Square n h → differences n f h ≤ differences n f g + differences n g h
+unfolding differences
+differences-way n f g h sf sg sh =
+    total-add n (λ i. differ (row f i) (row h i)) (λ i. differ (row f i) (row g i)) (λ i. differ (row g i) (row h i))
+    (λ i l. differ-way n (row f i) (row g i) (row h i) (sf .1 i l) (sg .1 i l) (sh .1 i l))
 
 -- frames differ in as many bits column by column as row by row
 pub differences-turned :

@@ -269,8 +269,8 @@ pub record HostItems : Type 0 where
       }
   -- a refusal is written into the block, and nothing into the frame
   pub refused-4 : forC 18 201 (zeros 54) 20 ≡ record { returned = 4; frame = nines 54; block = 4 ∷ zeros 19 }
-  -- a block one byte too short or too long, with an n out of range besides
-  pub short : forC 17 1 (zeros 51) 19 ≡ record { returned = 11; frame = nines 51; block = nines 19 }
+  -- a block one byte too short, and one too long with an n out of range besides
+  pub short : forC 18 1 (all ++ all ++ zeros 48) 19 ≡ record { returned = 11; frame = nines 54; block = nines 19 }
   pub long : forC 17 1 (zeros 51) 21 ≡ record { returned = 11; frame = nines 51; block = nines 21 }
 
 pub host-items : HostItems

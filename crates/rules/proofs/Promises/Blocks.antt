@@ -102,7 +102,7 @@ told-within n spent p b r c hp hb hr hc = values-within n 8 p b r c (omega arith
 abbrev Bounded : Code → ℕ → Figures → Type 0
 Bounded code n f = (m : ℕ) × (m ≤ n) × (m ≤ code .longest) × Within m f
 
-module _ (code : Code) (n allowance : ℕ) (received output : List ℕ) where
+module _ (code : Code) (ok : Sound code) (n allowance : ℕ) (received output : List ℕ) where
   abbrev refusal : ℕ
   refusal = decodeRefusal code n allowance received output
 
@@ -115,12 +115,12 @@ module _ (code : Code) (n allowance : ℕ) (received output : List ℕ) where
       at-either (λ d. Bounded code n (figuresOf d)) refusal (told outcome) (undecoded refusal)
       (λ z.
       let k = decode-accepts code n allowance received output .0 z in
-      let c = counts code n allowance (frameOf n received) (k .1 .0) (frameOf-square n received) in (
+      let c = counts code ok n (k .0 .from) allowance (frameOf n received) (k .1 .0) (frameOf-square n received) in (
         n,
         omega arith,
         k .0 .upTo,
         told-within n (outcome .ending) (outcome .passes) (outcome .bits) (outcome .rows) (outcome .columns)
-            (omega (arith, c .passes, k .1 .1)) (c .bits) (c .rows) (c .columns),
+            (omega (arith, c .passes, k .1 .1)) (c .not-all) (c .rows) (c .columns),
       ))
       (λ z. (
         0,
@@ -175,10 +175,10 @@ pub blocks : (code : Code) → Sound code → Blocks code
 unfolding block inBytes hostDecode
 blocks code ok = record {
   within = λ n allowance received output.
-      let b = said-bounded code n allowance received output in
+      let b = said-bounded code ok n allowance received output in
       wider (b .0) n (figuresOf (decodeSaid code n allowance received output)) (b .1) (b .3);
   fits = λ n allowance received output.
-      has-room code ok n (figuresOf (decodeSaid code n allowance received output)) (said-bounded code n allowance received output);
+      has-room code ok n (figuresOf (decodeSaid code n allowance received output)) (said-bounded code ok n allowance received output);
   long = λ f. refl;
   read-back = read-all;
   example = block-example;

@@ -1,37 +1,43 @@
--- RULES 5: how large the counts of an outcome can be: no more passes than are allowed, no more bits than a frame has, no more rows and
--- columns than there are. And how many bits a word flips: as many as its answer names places.
+-- RULES 5: how large the counts of an outcome can be: a word flips as many bits as its answer names places, a pass at most the radius
+-- for each word, and the last frame differs from the received one in no more bits than all passes flipped, or than a frame has.
 -- Assumes nothing.
 use mathlib.Core.Path.{_≡_, sym, ap, _∙_}
-use mathlib.Core.Bool.{not}
+use mathlib.Core.Bool.{Bool, true, false, not, cond}
 use mathlib.Core.List.{List}
 use mathlib.Core.Option.{Option, some, none}
-use Prim.Native.Nat.{ℕ, _*_, _≤_}
-use native.Mathlib.Nat.{zero-add}
+use Prim.Native.Nat.{ℕ, zero, suc, _*_, _≤_}
+use native.Mathlib.Nat.{zero-add, mul-suc}
 use native.Mathlib.Omega.{arith}
 use lib.ListN.{length}
-use Rattle.algebra.specs.Tables.{ones}
+use Rattle.algebra.specs.Tables.{ones, total}
 use Rattle.algebra.specs.Words.{Word, differ}
-use Rattle.algebra.proofs.TableLaws.{count-most}
+use Rattle.algebra.specs.Remainder.{isOdd}
+use Rattle.algebra.proofs.TableLaws.{total-most, count-most}
 use Rattle.algebra.proofs.WordLaws.{⊻-cancel}
 use Rattle.rules.specs.Codes.{Code, radius}
 use Rattle.rules.specs.Words.{isCodeword, answer, places, changed, mend}
 use Rattle.rules.specs.Frames.{Frame, Square, row, transposed, badRows, badColumns}
-use Rattle.rules.specs.Passes.{Ending, clean, repaired, stuck, spent, Outcome, decoded}
+use Rattle.rules.specs.Passes.{passRows, passColumns, differences, Ending, clean, repaired, stuck, spent, Outcome, decoded}
+use Rattle.rules.proofs.Laws.Shape.{transposed-square}
 use Rattle.rules.proofs.Laws.CodeLaws.{Sound}
 use Rattle.rules.proofs.Laws.SearchLaws.{places-length}
 use Rattle.rules.proofs.Laws.PatternLaws.{Rising, pattern, changed-pattern}
-use Rattle.rules.proofs.Laws.DifferenceLaws.{differences-most}
+use Rattle.rules.proofs.Laws.DifferenceLaws.{differences-self, differences-most, differences-way}
+use Rattle.rules.proofs.Laws.FlipLaws.{flipsOf, rows-flips, columns-flips}
 use Rattle.rules.proofs.Promises.Answers.{Fits, answer-fits}
-use Rattle.rules.proofs.Promises.Passes.{after, Ends, left, passes-promise}
+use Rattle.rules.proofs.Promises.Passes.{after, changedBits, Ends, left, passes-promise}
 
-pub record CountBounds (n a : ℕ) (o : Outcome) : Type 0 where
+pub record CountBounds (code : Code) (n a : ℕ) (o : Outcome) : Type 0 where
   pub passes : o .passes ≤ a
-  pub bits : o .bits ≤ n * n
+  pub bits : o .bits ≤ radius code * n * o .passes
+  pub not-all : o .bits ≤ n * n
   pub rows : o .rows ≤ n
   pub columns : o .columns ≤ n
 
 abbrev pub CountsPromise : Code → Type 0
-CountsPromise code = (n a : ℕ) (f : Frame) → 1 ≤ a → Square n f → CountBounds n a (decoded code n a f)
+CountsPromise code =
+    (n : ℕ) → code .shortest ≤ n → (a : ℕ) (f : Frame) → 1 ≤ a → Square n f
+    → CountBounds code n a (decoded code n a f)
 
 differ-changed : (n : ℕ) (ps : List ℕ) (w : Word) → length w ≡ n → Rising 0 n ps → differ w (changed ps w) ≡ length ps
 differ-changed n ps w l r =
@@ -58,7 +64,37 @@ module _ (code : Code) (ok : Sound code) (n : ℕ) (h : code .shortest ≤ n) wh
       named (some ps) k = (k .0, k .1)
       named none k = (tt, omega arith)
 
-module _ (code : Code) (n : ℕ) where
+  rows-few : (f : Frame) → Square n f → total n (flipsOf code n f) ≤ radius code * n
+  rows-few f s =
+      total-most (radius code) n (flipsOf code n f)
+      (λ i l. let k = mend-flips (row f i) (s .1 i l) in omega (arith, k .0, k .1))
+
+  changes-few : (f : Frame) → Square n f → (p : ℕ) → changedBits code n f p ≤ radius code * n
+  unfolding after
+  changes-few f s p = go (isOdd (suc p)) (passes-promise code .square n f s p)
+    where
+      go :
+          (c : Bool) → Square n (after code n f p)
+          → differences n (after code n f p) (cond c (passRows code n (after code n f p)) (passColumns code n (after code n f p)))
+          ≤ radius code * n
+      go true sq = omega (arith, rows-flips code n (after code n f p), rows-few (after code n f p) sq)
+      go false sq =
+          omega (arith, columns-flips code n (after code n f p) sq, rows-few (transposed n (after code n f p)) (transposed-square n (after code n f p)))
+
+  -- what p passes have changed, by way of what each left
+  differ-few : (f : Frame) → Square n f → (p : ℕ) → differences n f (after code n f p) ≤ radius code * n * p
+  unfolding after
+  differ-few f s zero = omega (arith, differences-self n f)
+  differ-few f s (suc p) =
+      let square = passes-promise code .square n f s in
+      omega (
+        arith,
+        differences-way n f (after code n f p) (after code n f (suc p)) s (square p) (square (suc p)),
+        differ-few f s p,
+        changes-few f s p,
+        mul-suc (radius code * n) p,
+      )
+
   left-few : (e : Ending) (x : ℕ) → x ≤ n → left e x ≤ n
   left-few clean x l = omega arith
   left-few repaired x l = omega arith
@@ -75,7 +111,7 @@ module _ (code : Code) (n : ℕ) where
   passes-few a f stuck p k = k .0 .allowed
   passes-few a f spent p k = k .0 .allowed
 
-  bounded : (a : ℕ) (f : Frame) → 1 ≤ a → Square n f → CountBounds n a (decoded code n a f)
+  bounded : (a : ℕ) (f : Frame) → 1 ≤ a → Square n f → CountBounds code n a (decoded code n a f)
   unfolding badColumns
   bounded a f lo s =
       let o : Outcome = decoded code n a f in
@@ -83,10 +119,11 @@ module _ (code : Code) (n : ℕ) where
       let g : Frame = after code n f (o .passes) in
       record {
         passes = passes-few a f (o .ending) (o .passes) (r .ends);
-        bits = rw (r .bits-are) (differences-most n f g s (passes-promise code .square n f s (o .passes)));
+        bits = rw (r .bits-are) (differ-few f s (o .passes));
+        not-all = rw (r .bits-are) (differences-most n f g s (passes-promise code .square n f s (o .passes)));
         rows = rw (r .rows-are) (left-few (o .ending) (badRows code n g) (bad-few g));
         columns = rw (r .columns-are) (left-few (o .ending) (badColumns code n g) (bad-few (transposed n g)));
       }
 
-pub counts : (code : Code) → CountsPromise code
-counts = bounded
+pub counts : (code : Code) (ok : Sound code) → CountsPromise code
+counts code ok n h a f lo s = bounded code ok n h a f lo s

@@ -65,7 +65,7 @@ pub record Premise : Type 0 where
   -- so that the demand fails where nothing is asked of what was received
   pub needed : ¬ BackAt smallCode (radius smallCode) (λ n received. Unit {0})
 
--- where the word of ones is a codeword, the square of ones is a frame, though none that was written: a block that is erased but for bits
+-- where the word of ones is a codeword, the square of ones is a frame, though none that was written: a frame that is erased but for bits
 -- within the class is repaired to it, with number 0. The small code has such words at n = 256
 pub record NearlyErased (code : Code) : Type 0 where
   pub handed-out :

@@ -1,7 +1,6 @@
 -- `put::put_low_byte` meets its contract: the mask leaves the low byte.
 -- Assumes nothing.
 use mathlib.Core.Path.{ap}
-use Prim.Native.Nat.{_-_}
 use native.Mathlib.Omega.{arith}
 use lib.ListN.{set}
 use lib.Bits.{and-mask}

@@ -1,6 +1,5 @@
 -- `put::put_number` meets its contract: each shift brings the next byte down.
 -- Assumes nothing.
-use Prim.Native.Nat.{_-_}
 use borrow.Author.Needs.{needs}
 use Rattle.block.proofs.PutLaws.{bytes-put}
 use Rattle.block.proofs.put.put_number.Statement.{statement}

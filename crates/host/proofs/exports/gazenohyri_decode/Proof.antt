@@ -1,6 +1,5 @@
 -- `exports::gazenohyri_decode` meets its contract: a block of another length is refused, else it has the values of what was decoded.
 -- Assumes nothing.
-use Prim.Native.Nat.{_-_}
 use native.Mathlib.Omega.{arith}
 use borrow.Author.Needs.{needs}
 use Rattle.host.proofs.FiguresLaws.{refused-block, put-block}

@@ -1,6 +1,5 @@
 -- `figures::figures_of` meets its contract: each case's values are those of `figures`.
 -- Assumes nothing.
-use Prim.Native.Nat.{_-_}
 use borrow.Author.Needs.{needs}
 use Rattle.frame.specs.declared.decode.Decoded.the-variants.{Refused, Ended}
 use Rattle.host.proofs.FiguresLaws.{answer-case}

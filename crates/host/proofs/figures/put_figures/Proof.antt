@@ -1,6 +1,5 @@
 -- `figures::put_figures` meets its contract: the five values in the order of `block`.
 -- Assumes nothing.
-use Prim.Native.Nat.{_-_}
 use borrow.Author.Needs.{needs}
 use Rattle.rules.specs.Block.{block}
 use Rattle.host.proofs.figures.put_figures.Statement.{statement}

@@ -1,6 +1,5 @@
 -- `figures::report_figures` meets its contract: each ending's values are those of `reportFigures`.
 -- Assumes nothing.
-use Prim.Native.Nat.{_-_}
 use borrow.Author.Needs.{needs}
 use Rattle.frame.specs.declared.decode.Ending.the-variants.{Clean, Repaired, Stuck, Spent, Erased}
 use Rattle.host.proofs.FiguresLaws.{report-case}

@@ -1,6 +1,5 @@
 -- `exports::probe_locate` meets its contract, by the length of the block.
 -- Assumes nothing.
-use Prim.Native.Nat.{_-_}
 use native.Mathlib.Omega.{arith}
 use borrow.Author.Needs.{needs}
 use Rattle.probe.proofs.ProbeLaws.{checks-refused, checks-put}
@@ -22,7 +21,8 @@ same-length : tie.Need-same-length
 same-length c = search needs
 
 returns-2 : tie.Need-returns-2
-returns-2 c = let a = c .before .before .before .before .before .before .before .args in
+returns-2 c =
+    let a = c .before .before .before .before .before .before .before .args in
     checks-put (a .n) (a .checks) (a .block .now) _ _ _ (omega (arith, c .before .before .before .before .before .if1 .left))
     (c .before .before .before .before .locate-said .ensures) (c .before .before .put-said .ensures)
 

@@ -1,6 +1,5 @@
 -- `exports::probe_word` meets its contract, by the length of the block.
 -- Assumes nothing.
-use Prim.Native.Nat.{_-_}
 use native.Mathlib.Omega.{arith}
 use borrow.Author.Needs.{needs}
 use Rattle.probe.proofs.ProbeLaws.{word-refused, word-put}
@@ -25,7 +24,8 @@ same-length-2 : tie.Need-same-length-2
 same-length-2 c = search needs
 
 returns-2 : tie.Need-returns-2
-returns-2 c = let a = c .before .before .before .before .before .before .before .before .before .before .before .before .args in
+returns-2 c =
+    let a = c .before .before .before .before .before .before .before .before .before .before .before .before .args in
     word-put (a .n) (a .received .now) (a .word .now) (a .block .now) _ _ _ _
     (omega (arith, c .before .before .before .before .before .before .before .before .if1 .left))
     (c .before .before .before .before .before .before .decode-word .ensures)

@@ -1,7 +1,6 @@
 -- `said::locate_said` meets its contract: what `locate` requires is tested.
 -- Assumes nothing.
 use mathlib.Core.Path.{sym, _∙_}
-use Prim.Native.Nat.{_-_}
 use native.Mathlib.Omega.{arith}
 use borrow.Author.Needs.{needs}
 use Rattle.rules.specs.Numbers.{outside}

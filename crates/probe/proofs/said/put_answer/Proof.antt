@@ -1,6 +1,5 @@
 -- `said::put_answer` meets its contract, case by case.
 -- Assumes nothing.
-use Prim.Native.Nat.{_-_}
 use borrow.Author.Needs.{needs}
 use Rattle.word.specs.declared.locate.Answer.the-variants.{Codeword, OnePlace, TwoPlaces, Beyond}
 use Rattle.probe.proofs.ProbeLaws.{answer-put}

@@ -1,6 +1,5 @@
 -- `said::put_said` meets its contract, case by case.
 -- Assumes nothing.
-use Prim.Native.Nat.{_-_}
 use borrow.Author.Needs.{needs}
 use Rattle.word.specs.declared.decode.Said.the-variants.{Refused, Answered}
 use Rattle.probe.proofs.ProbeLaws.{said-put}
