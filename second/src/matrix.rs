@@ -84,15 +84,15 @@ impl Matrix {
     /// The matrix whose rows are the columns of this one.
     pub fn transposed(&self) -> Matrix {
         let mut turned = Matrix::zero(self.n);
-        let blocks = (self.n + 63) / 64;
-        for down in 0..blocks {
-            for along in 0..blocks {
-                let mut block = [0; 64];
-                for (part, word) in block.iter_mut().zip(&self.words[64 * down..]) {
+        let tiles = (self.n + 63) / 64;
+        for down in 0..tiles {
+            for along in 0..tiles {
+                let mut tile = [0; 64];
+                for (part, word) in tile.iter_mut().zip(&self.words[64 * down..]) {
                     *part = word.0[along];
                 }
-                transpose_block(&mut block);
-                for (word, part) in turned.words[64 * along..].iter_mut().zip(&block) {
+                transpose_tile(&mut tile);
+                for (word, part) in turned.words[64 * along..].iter_mut().zip(&tile) {
                     word.0[down] = *part;
                 }
             }
@@ -104,15 +104,15 @@ impl Matrix {
 /// Transposes 64 rows of 64 bits: swaps the upper right quarter with the lower
 /// left one, then does the same within each quarter, and so on, all squares of
 /// one width at once.
-fn transpose_block(block: &mut [u64; 64]) {
+fn transpose_tile(tile: &mut [u64; 64]) {
     let mut width = 32;
     // The right half of every square of twice the width.
     let mut right = u64::MAX >> 32;
     while width > 0 {
         for top in (0..64).filter(|i| i & width == 0) {
-            let swap = (block[top] ^ block[top + width] >> width) & right;
-            block[top] ^= swap;
-            block[top + width] ^= swap << width;
+            let swap = (tile[top] ^ tile[top + width] >> width) & right;
+            tile[top] ^= swap;
+            tile[top + width] ^= swap << width;
         }
         width /= 2;
         right ^= right << width;

@@ -7,9 +7,7 @@ fn main() {
     println!("cargo:rerun-if-env-changed=NATIVE");
     let folder = match env::var_os("NATIVE") {
         Some(folder) => PathBuf::from(folder),
-        None => {
-            PathBuf::from(env::var_os("CARGO_MANIFEST_DIR").unwrap()).join("../../target/native")
-        }
+        None => PathBuf::from(env::var_os("CARGO_MANIFEST_DIR").unwrap()).join("../../target/native"),
     };
     println!("cargo:rustc-link-search=native={}", folder.display());
     for name in ["gazenohyri", "probe"] {

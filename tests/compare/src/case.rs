@@ -123,7 +123,7 @@ impl From<Answer> for Told {
 
 /// Where the lent block is: next to the output, or apart from it.
 #[derive(Clone, Copy, Debug)]
-pub enum Lies {
+pub enum BlockAt {
     Before,
     Behind,
     Apart,
@@ -140,7 +140,7 @@ pub struct Case {
     pub output: Vec<u8>,
     /// What the lent block holds before the call; there is none where the entry point asks for none.
     pub block: Vec<u8>,
-    pub lies: Lies,
+    pub block_at: BlockAt,
 }
 
 /// What a side said, and what it left in the output and the block.
@@ -166,8 +166,8 @@ impl Case {
     /// A case whose output of `output_len` bytes holds a random pattern, and its block too.
     pub fn new(random: &mut Random, entry: Entry, n: usize, input: Vec<u8>, output_len: usize) -> Case {
         let (output, block) = (random.bytes(output_len), random.bytes(entry.block_bytes()));
-        let lies = [Lies::Before, Lies::Behind, Lies::Apart][random.below(3)];
-        Case { entry, n, argument: 0, input, output, block, lies }
+        let block_at = [BlockAt::Before, BlockAt::Behind, BlockAt::Apart][random.below(3)];
+        Case { entry, n, argument: 0, input, output, block, block_at }
     }
 
     pub fn with(self, argument: usize) -> Case {
@@ -266,17 +266,17 @@ impl Case {
     pub fn proved(&self) -> Said {
         const MARGIN: [u8; 19] = [0xa5; 19];
         let (output, block) = (&self.output[..], &self.block[..]);
-        let (first, between, second) = match self.lies {
-            Lies::Before => (block, &[][..], output),
-            Lies::Behind => (output, &[][..], block),
-            Lies::Apart => (output, &MARGIN[..], block),
+        let (first, between, second) = match self.block_at {
+            BlockAt::Before => (block, &[][..], output),
+            BlockAt::Behind => (output, &[][..], block),
+            BlockAt::Apart => (output, &MARGIN[..], block),
         };
         let mut room = [&MARGIN, first, between, second, &MARGIN].concat();
         let (before, rest) = room.split_at_mut(MARGIN.len());
         let (first, rest) = rest.split_at_mut(first.len());
         let (between, rest) = rest.split_at_mut(between.len());
         let (second, after) = rest.split_at_mut(second.len());
-        let (output, block) = if matches!(self.lies, Lies::Before) { (second, first) } else { (first, second) };
+        let (output, block) = if matches!(self.block_at, BlockAt::Before) { (second, first) } else { (first, second) };
         let input = self.input.clone();
         let number = self.call_proved(&input, output, block);
         let mut margins = before.iter().chain(&*between).chain(&*after);

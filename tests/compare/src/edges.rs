@@ -1,51 +1,51 @@
 //! Frames at the edges: counts at their greatest, damage that just can be mended or just can't, and single bits.
 
-use crate::block::Block;
+use crate::batch::Batch;
 use crate::promise::Promise;
 use shared::bits::{flip_at, has_spare_bits, on_spare_bits, row_mut, square_bytes, CHECK_BITS, MOST_ALLOWED};
 use shared::damage;
 
 /// Decodes a frame: the answer, as its five counts, and the output must be these.
-fn decode(block: &mut Block, allowance: usize, received: &[u8], counts: [usize; 5], output: &[u8]) {
-    let case = block.decode_case(allowance, received.to_vec());
-    block.check(case, Promise::frame(counts, output.to_vec()), &[]);
+fn decode(batch: &mut Batch, allowance: usize, received: &[u8], counts: [usize; 5], output: &[u8]) {
+    let case = batch.decode_case(allowance, received.to_vec());
+    batch.check(case, Promise::frame(counts, output.to_vec()), &[]);
 }
 
 /// Three wrong bits in every row and column. Such a word has no codeword within two: codewords differ in at least 6 places.
-pub fn all_words_bad(block: &mut Block) {
-    let n = block.n;
-    let mut received = block.write_random().frame;
+pub fn all_words_bad(batch: &mut Batch) {
+    let n = batch.n;
+    let mut received = batch.write_random().frame;
     (0..3 * n).for_each(|place| flip_at(n, &mut received, place / 3, (place / 3 + place % 3) % n));
-    decode(block, 1, &received, [8, 1, 0, n, n], &received);
+    decode(batch, 1, &received, [8, 1, 0, n, n], &received);
     for allowance in (2..=MOST_ALLOWED).step_by(33) {
-        decode(block, allowance, &received, [7, 2, 0, n, n], &received);
+        decode(batch, allowance, &received, [7, 2, 0, n, n], &received);
     }
 }
 
-pub fn two_in_every_row(block: &mut Block) {
-    let n = block.n;
-    let written = block.write_random().frame;
+pub fn two_in_every_row(batch: &mut Batch) {
+    let n = batch.n;
+    let written = batch.write_random().frame;
     let mut received = written.clone();
     for i in 0..n {
-        block.random.distinct(2, n).into_iter().for_each(|j| flip_at(n, &mut received, i, j));
+        batch.random.distinct(2, n).into_iter().for_each(|j| flip_at(n, &mut received, i, j));
     }
     for allowance in [1, MOST_ALLOWED] {
-        decode(block, allowance, &received, [0, 1, 2 * n, 0, 0], &written);
+        decode(batch, allowance, &received, [0, 1, 2 * n, 0, 0], &written);
     }
 }
 
 /// Bands of wrong bits: the widest that n has room for, at the least allowance that mends it and at one less; and two others.
-pub fn bands(block: &mut Block) {
-    let (n, widest) = (block.n, block.n - 2);
+pub fn bands(batch: &mut Batch) {
+    let (n, widest) = (batch.n, batch.n - 2);
     let passes = passes_of(widest);
-    let other = (block.random.within(1, widest), block.random.within(1, passes));
-    let greatest = (block.random.within(1, widest), MOST_ALLOWED);
+    let other = (batch.random.within(1, widest), batch.random.within(1, passes));
+    let greatest = (batch.random.within(1, widest), MOST_ALLOWED);
     for (rows, allowance) in [(widest, passes), (widest, passes - 1), other, greatest] {
-        let written = block.write_random().frame;
+        let written = batch.write_random().frame;
         let mut received = written.clone();
         (0..3 * rows).for_each(|place| flip_at(n, &mut received, place / 3, place / 3 + place % 3));
         let counts = of_band(rows, allowance);
-        decode(block, allowance, &received, counts, if counts[0] == 0 { &written } else { &received });
+        decode(batch, allowance, &received, counts, if counts[0] == 0 { &written } else { &received });
     }
 }
 
@@ -71,52 +71,52 @@ fn of_band(rows: usize, allowance: usize) -> [usize; 5] {
 
 /// Two rows flipped, emptied or filled; two columns flipped; eight wrong bits, hard for rows and for columns; two spoiled rows with
 /// two wrong bits in each other; and as many wrong bits as the promise allows.
-pub fn just_mended(block: &mut Block) {
-    let n = block.n;
+pub fn just_mended(batch: &mut Batch) {
+    let n = batch.n;
     for kind in 0..6 {
-        let written = block.write_random().frame;
+        let written = batch.write_random().frame;
         let mut received = written.clone();
-        let (lines, left) = (block.random.distinct(2, n), block.random.below(n - 5));
+        let (lines, left) = (batch.random.distinct(2, n), batch.random.below(n - 5));
         match kind {
             0 => (0..2 * n).for_each(|place| flip_at(n, &mut received, lines[place % 2], place / 2)),
             1 => {
                 row_mut(n, &mut received, lines[0]).fill(0);
-                block.random.fill(row_mut(n, &mut received, lines[1]));
+                batch.random.fill(row_mut(n, &mut received, lines[1]));
             }
             2 => (0..2 * n).for_each(|place| flip_at(n, &mut received, place / 2, lines[place % 2])),
             3 => (0..8).for_each(|e| flip_at(n, &mut received, lines[0].min(n - 3) + e / 3, left + e % 3)),
             4 => {
                 for i in 0..n {
-                    flip_at(n, &mut received, i, left + block.random.below(2));
-                    flip_at(n, &mut received, i, left + 2 + block.random.below(2));
+                    flip_at(n, &mut received, i, left + batch.random.below(2));
+                    flip_at(n, &mut received, i, left + 2 + batch.random.below(2));
                     flip_at(n, &mut received, lines[0], i);
-                    flip_at(n, &mut received, lines[1], block.random.below(n));
+                    flip_at(n, &mut received, lines[1], batch.random.below(n));
                 }
             }
             _ => damage::most_of_class(n, &mut received, [lines[0], lines[1]]),
         }
-        let allowance = if kind == 4 { block.random.within(2, MOST_ALLOWED) } else { 2 };
-        let case = block.decode_case(allowance, received);
+        let allowance = if kind == 4 { batch.random.within(2, MOST_ALLOWED) } else { 2 };
+        let case = batch.decode_case(allowance, received);
         let promise = Promise::within_the_class(&case, &written);
-        block.check(case, promise, &written);
+        batch.check(case, promise, &written);
     }
 }
 
 /// A written frame with one wrong bit, or with all rows codewords and not all columns, or the other way round, can't be read;
 /// with its spare bits set it can.
-pub fn unreadable(block: &mut Block) {
-    let n = block.n;
+pub fn unreadable(batch: &mut Batch) {
+    let n = batch.n;
     let mut data = vec![0; square_bytes(n - CHECK_BITS)];
     data[0] = 0x80;
-    let written = block.write(data.clone()).frame;
+    let written = batch.write(data.clone()).frame;
     let mut places = vec![0, n * n - 1];
     places.extend(
-        (0..if n == 18 { n * n } else { 6 }).map(|place| if n == 18 { place } else { block.random.below(n * n) }),
+        (0..if n == 18 { n * n } else { 6 }).map(|place| if n == 18 { place } else { batch.random.below(n * n) }),
     );
     let mut read = |frame: Vec<u8>, good: bool| {
-        let case = block.read_case(frame);
+        let case = batch.read_case(frame);
         let promise = if good { Promise::data(data.clone()) } else { Promise::refused(6, &case) };
-        block.check(case, promise, &written);
+        batch.check(case, promise, &written);
     };
     for place in places {
         let mut frame = written.clone();
@@ -132,17 +132,17 @@ pub fn unreadable(block: &mut Block) {
 }
 
 /// Data in which one spare bit alone is set.
-pub fn each_spare_bit(block: &mut Block) {
-    let (n, k) = (block.n, block.n - CHECK_BITS);
+pub fn each_spare_bit(batch: &mut Batch) {
+    let (n, k) = (batch.n, batch.n - CHECK_BITS);
     if ![18, 19, 24, 26, 31, 32, 195, 255, 256].contains(&n) {
         return;
     }
-    let data = block.write_random().data;
+    let data = batch.write_random().data;
     for place in (0..8 * data.len()).filter(|place| place % (8 * (data.len() / k)) >= k) {
         let mut spoiled = data.clone();
         spoiled[place / 8] ^= 0x80 >> (place % 8);
         assert!(has_spare_bits(k, &spoiled));
-        let case = block.encode_case(spoiled);
-        block.check_refused(case, 5);
+        let case = batch.encode_case(spoiled);
+        batch.check_refused(case, 5);
     }
 }

@@ -1,6 +1,6 @@
 //! Erased frames, whose code bits are all ones: what comes before number 10, what after it, and what is next to such a frame.
 
-use crate::block::Block;
+use crate::batch::Batch;
 use crate::case::{Case, Entry, Told};
 use crate::promise::Promise;
 use crate::refusals::{exact, refusal};
@@ -38,32 +38,32 @@ fn with_zero(random: &mut Random, n: usize, (i, j): (usize, usize)) -> Vec<u8> {
 }
 
 /// Whatever the spare bits and the allowance. Reading, it is 10 also where the ones are no frame.
-pub fn frames(block: &mut Block) {
-    for frame in of_ones(&mut block.random, block.n) {
-        for allowance in [1, 2, block.random.within(3, MOST_ALLOWED - 1), MOST_ALLOWED] {
-            let case = block.decode_case(allowance, frame.clone());
-            block.check_refused(case, 10);
+pub fn frames(batch: &mut Batch) {
+    for frame in of_ones(&mut batch.random, batch.n) {
+        for allowance in [1, 2, batch.random.within(3, MOST_ALLOWED - 1), MOST_ALLOWED] {
+            let case = batch.decode_case(allowance, frame.clone());
+            batch.check_refused(case, 10);
         }
-        let case = block.read_case(frame);
-        block.check_refused(case, 10);
+        let case = batch.read_case(frame);
+        batch.check_refused(case, 10);
     }
 }
 
 /// At the corners, in the last column, next to the spare bits, and anywhere.
-pub fn but_one_bit(block: &mut Block) {
-    let (n, last) = (block.n, block.n - 1);
+pub fn but_one_bit(batch: &mut Batch) {
+    let (n, last) = (batch.n, batch.n - 1);
     let places = Places::new(n);
-    let mut zeros = vec![(0, 0), (0, last), (last, 0), (last, last), (block.random.below(n), last)];
-    zeros.extend((0..4).map(|_| (block.random.below(n), block.random.below(n))));
+    let mut zeros = vec![(0, 0), (0, last), (last, 0), (last, last), (batch.random.below(n), last)];
+    zeros.extend((0..4).map(|_| (batch.random.below(n), batch.random.below(n))));
     for zero in zeros {
-        let frame = with_zero(&mut block.random, n, zero);
-        for allowance in [1, block.random.within(2, MOST_ALLOWED)] {
-            let case = block.decode_case(allowance, frame.clone());
+        let frame = with_zero(&mut batch.random, n, zero);
+        for allowance in [1, batch.random.within(2, MOST_ALLOWED)] {
+            let case = batch.decode_case(allowance, frame.clone());
             let promise = of_one_zero(&places, &case, zero);
-            block.check(case, promise, &[]);
+            batch.check(case, promise, &[]);
         }
-        let case = block.read_case(frame);
-        block.check_refused(case, 6);
+        let case = batch.read_case(frame);
+        batch.check_refused(case, 6);
     }
 }
 
@@ -87,8 +87,8 @@ fn of_one_zero(places: &Places, case: &Case, (i, j): (usize, usize)) -> Promise 
 
 /// Where the word of ones has a codeword two places away, the crossings of that one with itself are a frame. Ones are this frame
 /// with two rows lost and two wrong bits in each other row: within the class, and erased. With a zero among them it comes back.
-pub fn within_the_class(block: &mut Block) {
-    let (n, k) = (block.n, block.n - CHECK_BITS);
+pub fn within_the_class(batch: &mut Batch) {
+    let (n, k) = (batch.n, batch.n - CHECK_BITS);
     let lost = match Places::new(n).near(&(0..n).collect::<Vec<_>>()) {
         Some(two) if two.len() == 2 => two,
         _ => return,
@@ -98,24 +98,24 @@ pub fn within_the_class(block: &mut Block) {
     let (mut data, mut written) = (vec![0; square_bytes(k)], vec![0; square_bytes(n)]);
     add_crossings(k, &mut data, &in_data, &in_data);
     add_crossings(n, &mut written, &ones, &ones);
-    block.divide(&data, &written, true);
-    let case = block.encode_case(data);
+    batch.divide(&data, &written, true);
+    let case = batch.encode_case(data);
     let promise = Promise::told(Entry::Encode, Told::number(0), written.clone());
-    block.check(case, promise, &[]);
-    for frame in of_ones(&mut block.random, n) {
+    batch.check(case, promise, &[]);
+    for frame in of_ones(&mut batch.random, n) {
         for allowance in [1, 2, MOST_ALLOWED] {
-            let case = block.decode_case(allowance, frame.clone());
-            block.check_refused(case, 10);
+            let case = batch.decode_case(allowance, frame.clone());
+            batch.check_refused(case, 10);
         }
     }
-    spoiled(block, &written, [lost[0], lost[1]]);
+    spoiled(batch, &written, [lost[0], lost[1]]);
 }
 
 /// The frame was written with zeros in the two lost rows and at two places of each other row, and ones elsewhere. Received are
 /// ones, but for some bits, and it comes back. Only of the last no more is asked than that it is not erased.
-fn spoiled(block: &mut Block, written: &[u8], lost: [usize; 2]) {
-    let n = block.n;
-    let (any, other) = (block.random.below(n), (lost[0] + 1) % n);
+fn spoiled(batch: &mut Batch, written: &[u8], lost: [usize; 2]) {
+    let n = batch.n;
+    let (any, other) = (batch.random.below(n), (lost[0] + 1) % n);
     let zeros = [
         // In a lost row, where anything may be wrong.
         (lost[0], any),
@@ -124,72 +124,72 @@ fn spoiled(block: &mut Block, written: &[u8], lost: [usize; 2]) {
         (any, lost[0]),
         (any, lost[1]),
     ];
-    let mut all = zeros.map(|zero| with_zero(&mut block.random, n, zero)).to_vec();
+    let mut all = zeros.map(|zero| with_zero(&mut batch.random, n, zero)).to_vec();
     // The first lost row of noise, then the second, then both.
     for rows in [&lost[..1], &lost[1..], &lost[..]] {
         let mut noise = vec![0xff; written.len()];
-        rows.iter().for_each(|&i| block.random.fill(row_mut(n, &mut noise, i)));
+        rows.iter().for_each(|&i| batch.random.fill(row_mut(n, &mut noise, i)));
         all.push(noise);
     }
     for received in all {
-        let allowance = block.random.within(2, MOST_ALLOWED);
-        let case = block.decode_case(allowance, received);
+        let allowance = batch.random.within(2, MOST_ALLOWED);
+        let case = batch.decode_case(allowance, received);
         let promise = Promise::within_the_class(&case, written);
-        block.check(case, promise, written);
+        batch.check(case, promise, written);
     }
     // The last, with a zero where a one was written: a third row has three wrong bits, so it is not of the class.
-    let received = with_zero(&mut block.random, n, (other, other));
-    let case = block.decode_case(MOST_ALLOWED, received);
-    block.check(case, Promise::Not(10), written);
+    let received = with_zero(&mut batch.random, n, (other, other));
+    let case = batch.decode_case(MOST_ALLOWED, received);
+    batch.check(case, Promise::Not(10), written);
 }
 
 /// At n = 256 alone the frame of ones is erased; and a spare bit is seen before it.
-pub fn data(block: &mut Block) {
-    let k = block.n - CHECK_BITS;
-    let forms = of_ones(&mut block.random, k);
-    for place in [0, k * k - 1, block.random.below(k * k), block.random.below(k * k)] {
+pub fn data(batch: &mut Batch) {
+    let k = batch.n - CHECK_BITS;
+    let forms = of_ones(&mut batch.random, k);
+    for place in [0, k * k - 1, batch.random.below(k * k), batch.random.below(k * k)] {
         let mut data = forms[0].clone();
         flip_at(k, &mut data, place / k, place % k);
-        let case = block.encode_case(data.clone());
+        let case = batch.encode_case(data.clone());
         let promise = Promise::encoded(&case);
-        block.check(case, promise, &[]);
-        let written = block.write(data);
-        let case = block.read_case(written.frame.clone());
-        block.check(case, Promise::data(written.data), &written.frame);
+        batch.check(case, promise, &[]);
+        let written = batch.write(data);
+        let case = batch.read_case(written.frame.clone());
+        batch.check(case, Promise::data(written.data), &written.frame);
     }
     for data in forms {
-        let case = block.encode_case(data);
-        check_ones(block, case);
+        let case = batch.encode_case(data);
+        check_ones(batch, case);
     }
 }
 
 /// A case whose bits are all ones: refused, or encoded.
-fn check_ones(block: &mut Block, case: Case) {
+fn check_ones(batch: &mut Batch, case: Case) {
     match refusal(&case) {
-        Some(number) => block.check_refused(case, number),
+        Some(number) => batch.check_refused(case, number),
         None => {
             let promise = Promise::encoded(&case);
-            block.check(case, promise, &[]);
+            batch.check(case, promise, &[]);
         }
     }
 }
 
 /// Numbers 1 to 5 come before 10, whichever of them are there, and 6 after it.
-pub fn refusals(block: &mut Block) {
+pub fn refusals(batch: &mut Batch) {
     for entry in [Entry::Encode, Entry::Read, Entry::Decode] {
-        let (input, output) = exact(entry, block.n);
-        for n in [block.n, SHORTEST - 1, block.n + 256] {
+        let (input, output) = exact(entry, batch.n);
+        for n in [batch.n, SHORTEST - 1, batch.n + 256] {
             for input in [input, input - 1] {
                 for output in [output, output + 1] {
-                    refusals_of(block, entry, n, (input, output));
+                    refusals_of(batch, entry, n, (input, output));
                 }
             }
         }
     }
 }
 
-fn refusals_of(block: &mut Block, entry: Entry, n: usize, (input, output): (usize, usize)) {
-    let size = if entry == Entry::Encode { block.n - CHECK_BITS } else { block.n };
+fn refusals_of(batch: &mut Batch, entry: Entry, n: usize, (input, output): (usize, usize)) {
+    let size = if entry == Entry::Encode { batch.n - CHECK_BITS } else { batch.n };
     let allowances = if entry == Entry::Decode { &[0, 1, MOST_ALLOWED, MOST_ALLOWED + 1][..] } else { &[0] };
     for &allowance in allowances {
         for spare in [true, false] {
@@ -197,8 +197,8 @@ fn refusals_of(block: &mut Block, entry: Entry, n: usize, (input, output): (usiz
             if !spare {
                 clear_spare_bits(size, &mut ones);
             }
-            let case = Case::new(&mut block.random, entry, n, ones, output).with(allowance);
-            check_ones(block, case);
+            let case = Case::new(&mut batch.random, entry, n, ones, output).with(allowance);
+            check_ones(batch, case);
         }
     }
 }

@@ -1,6 +1,6 @@
 //! Decoding of whole frames.
 
-use crate::block::{Block, Kind};
+use crate::batch::{Batch, Kind};
 use crate::kinds::{kind, whole};
 use crate::promise::Promise;
 use second::Code;
@@ -13,7 +13,7 @@ use shared::written::{self, add_crossings, six_places};
 
 type Allowance = fn(&mut Random) -> usize;
 
-/// All that are permitted, the small ones and those at edges more often. 32 was the greatest once.
+/// All that are permitted. The small ones, up to 32, come more often, and so do those at the edges of both ranges.
 fn allowance(random: &mut Random) -> usize {
     const EDGES: [usize; 6] = [1, 2, 32, 33, MOST_ALLOWED - 1, MOST_ALLOWED];
     match random.below(20) {
@@ -30,18 +30,18 @@ type Damage = fn(&Code, &mut Random, usize, &mut [u8]);
 
 /// A kind of `count` written frames for every n, each after `damage`, with allowances from `allowance`.
 fn allowed(name: &'static str, count: usize, answers: &'static str, allowance: Allowance, damage: Damage) -> Kind {
-    kind(name, count, answers, move |block| {
-        for _ in 0..block.count {
-            let written = block.write_random().frame;
+    kind(name, count, answers, move |batch| {
+        for _ in 0..batch.count {
+            let written = batch.write_random().frame;
             let mut received = written.clone();
-            damage(block.code, &mut block.random, block.n, &mut received);
-            if block.random.once_in(4) {
-                damage::set_spare_bits(&mut block.random, block.n, &mut received);
+            damage(batch.code, &mut batch.random, batch.n, &mut received);
+            if batch.random.once_in(4) {
+                damage::set_spare_bits(&mut batch.random, batch.n, &mut received);
             }
-            let allowance = allowance(&mut block.random);
-            let case = block.decode_case(allowance, received);
+            let allowance = allowance(&mut batch.random);
+            let case = batch.decode_case(allowance, received);
             let promise = Promise::of_frame(&case, &written);
-            block.check(case, promise, &written);
+            batch.check(case, promise, &written);
         }
     })
 }
@@ -173,68 +173,68 @@ pub fn tied() -> Vec<Kind> {
     ]
 }
 
-/// Chains, each at the least allowance that repairs it, at one less, and at two more. Of each n one that goes with it, and of some
-/// the longest that has room; of all n together every length, up to one that no allowance repairs.
-fn chains(block: &mut Block) {
-    let n = block.n;
+/// Chains, each at the least allowance that repairs it, at one less, and at two others. Of each n one that goes with it, and of
+/// some the longest that has room; of all n together every length, up to one that no allowance repairs.
+fn chains(batch: &mut Batch) {
+    let n = batch.n;
     let (places, longest) = (Places::new(n), SPENT_CHAIN.min(2 * n));
     let mut lengths = vec![SHORTEST_CHAIN + n % (longest - SHORTEST_CHAIN + 1)];
     if longest < SPENT_CHAIN || n % 16 == 0 {
         lengths.push(longest);
     }
     for length in lengths {
-        let chain = Chain::new(&mut block.random, &places, n, length);
+        let chain = Chain::new(&mut batch.random, &places, n, length);
         let enough = chain.passes().min(MOST_ALLOWED);
-        let others = [MOST_ALLOWED, block.random.within(1, enough)];
+        let others = [MOST_ALLOWED, batch.random.within(1, enough)];
         let allowances = [enough, enough - 1].into_iter().chain(others);
-        for allowance in allowances.take(if block.quick { 2 } else { 4 }) {
-            let written = block.write_random().frame;
+        for allowance in allowances.take(if batch.quick { 2 } else { 4 }) {
+            let written = batch.write_random().frame;
             let mut received = written.clone();
             chain.spoil(&mut received);
             let counts = chain.decoded(allowance);
             let output = if counts[0] == 0 { written.clone() } else { received.clone() };
-            let case = block.decode_case(allowance, received);
-            block.check(case, Promise::frame(counts, output), &written);
+            let case = batch.decode_case(allowance, received);
+            batch.check(case, Promise::frame(counts, output), &written);
         }
     }
 }
 
 /// Random bytes, and one byte everywhere.
-fn random_bytes(block: &mut Block) {
-    for _ in 0..block.count {
-        let mut received = block.random.bytes(square_bytes(block.n));
-        if block.random.once_in(8) {
-            received = vec![block.random.byte(); square_bytes(block.n)];
+fn random_bytes(batch: &mut Batch) {
+    for _ in 0..batch.count {
+        let mut received = batch.random.bytes(square_bytes(batch.n));
+        if batch.random.once_in(8) {
+            received = vec![batch.random.byte(); square_bytes(batch.n)];
         }
-        let allowance = allowance(&mut block.random);
-        let case = block.decode_case(allowance, received);
-        block.check(case, Promise::None, &[]);
+        let allowance = allowance(&mut batch.random);
+        let case = batch.decode_case(allowance, received);
+        batch.check(case, Promise::None, &[]);
     }
 }
 
 /// Another frame differs from the written one at the crossings of six rows and six columns. Of
 /// these four and four are wrong: pass 1 completes the rows, pass 2 the columns, and the frame is
 /// repaired to that other one.
-fn sixteen_bits(block: &mut Block) {
-    let n = block.n;
+fn sixteen_bits(batch: &mut Batch) {
+    let n = batch.n;
     let places = Places::new(n);
-    for _ in 0..block.count {
-        let lines = (six_places(&places, &mut block.random, n), six_places(&places, &mut block.random, n));
+    for _ in 0..batch.count {
+        let lines = (six_places(&places, &mut batch.random, n), six_places(&places, &mut batch.random, n));
         let (rows, columns) = match lines {
             (Some(rows), Some(columns)) => (rows, columns),
             _ => return,
         };
-        let written = block.write_random().frame;
+        let written = batch.write_random().frame;
         let (mut received, mut other) = (written.clone(), written.clone());
         add_crossings(n, &mut received, &rows[..4], &columns[..4]);
         add_crossings(n, &mut other, &rows, &columns);
-        let allowance = allowance(&mut block.random);
-        let case = block.decode_case(allowance, received.clone());
+        let allowance = allowance(&mut batch.random);
+        let case = batch.decode_case(allowance, received.clone());
         let promise = if allowance == 1 {
             Promise::frame([8, 1, 8, 0, 6], received)
         } else {
             Promise::frame([0, 2, 20, 0, 0], other)
         };
-        block.check(case, promise, &written);
+        batch.check(case, promise, &written);
     }
 }

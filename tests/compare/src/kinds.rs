@@ -1,6 +1,6 @@
 //! All kinds of checks, how many cases each has for every n, and which answers it must meet.
 
-use crate::block::{Block, Kind};
+use crate::batch::{Batch, Kind};
 use crate::{data, edges, erased, frames, items, knots, refusals, words};
 use shared::bits::{LONGEST, NEAR_ONES, SHORTEST};
 
@@ -11,14 +11,14 @@ pub fn kind(
     name: &'static str,
     count: usize,
     answers: &'static str,
-    make: impl Fn(&mut Block) + Sync + 'static,
+    make: impl Fn(&mut Batch) + Sync + 'static,
 ) -> Kind {
     let make = Box::new(make);
     Kind { name, count, least: count as u64 * LENGTHS, lengths: SHORTEST..=LONGEST, answers, make }
 }
 
 /// A kind that makes as many cases as there are.
-pub fn whole(name: &'static str, least: u64, answers: &'static str, make: fn(&mut Block)) -> Kind {
+pub fn whole(name: &'static str, least: u64, answers: &'static str, make: fn(&mut Batch)) -> Kind {
     Kind { least, ..kind(name, 0, answers, make) }
 }
 

@@ -4,7 +4,7 @@
 //! pass over rows makes six, a codeword away; two further rows, of three wrong bits each, see that
 //! the four columns are refused. The pass over columns takes the two added columns back.
 
-use crate::block::Block;
+use crate::batch::Batch;
 use crate::promise::Promise;
 use shared::bits::{flip_at, MOST_ALLOWED};
 use shared::damage;
@@ -16,29 +16,29 @@ use std::ops::RangeInclusive;
 pub const LENGTHS: RangeInclusive<usize> = 200..=256;
 
 /// The first frame of each n has as many knots as fit, and all passes.
-pub fn knots(block: &mut Block) {
-    let n = block.n;
+pub fn knots(batch: &mut Batch) {
+    let n = batch.n;
     if !LENGTHS.contains(&n) {
         return;
     }
     let places = Places::new(n);
     // Each takes six columns, and the last needs some to choose from.
     let most = (n - 40) / 6;
-    for index in 0..block.count {
-        let random = &mut block.random;
+    for index in 0..batch.count {
+        let random = &mut batch.random;
         let few = index > 0 && random.once_in(3);
         let knots = if few { random.within(1, most) } else { most };
         let short = index > 0 && random.once_in(3);
         let allowance = if short { random.within(1, MOST_ALLOWED) } else { MOST_ALLOWED };
-        let written = block.write_random().frame;
+        let written = batch.write_random().frame;
         let mut received = written.clone();
-        tie(&mut block.random, &places, n, knots, &mut received);
-        if block.random.once_in(4) {
-            damage::set_spare_bits(&mut block.random, n, &mut received);
+        tie(&mut batch.random, &places, n, knots, &mut received);
+        if batch.random.once_in(4) {
+            damage::set_spare_bits(&mut batch.random, n, &mut received);
         }
         let promise = promise(knots, allowance, received.clone());
-        let case = block.decode_case(allowance, received);
-        block.check(case, promise, &written);
+        let case = batch.decode_case(allowance, received);
+        batch.check(case, promise, &written);
     }
 }
 

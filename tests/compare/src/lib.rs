@@ -4,7 +4,7 @@
 //! must give the same number, the same counts and the same bytes. Where the way a case was made settles its answer by
 //! the rules, both are also held to that: a *promise*.
 
-pub mod block;
+pub mod batch;
 pub mod case;
 pub mod data;
 pub mod edges;

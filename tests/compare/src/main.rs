@@ -1,6 +1,6 @@
 //! Runs every kind of check and counts each as passed or failed. The flags are those of `Scale`.
 
-use compare::block::{Kind, Tally};
+use compare::batch::{Kind, Tally};
 use compare::kinds;
 use second::Code;
 use shared::bits::{LONGEST, MOST_ALLOWED};

@@ -1,26 +1,26 @@
 //! Bad arguments, one reason or several at once: the output must stay untouched. And row i of a frame.
 
-use crate::block::Block;
+use crate::batch::Batch;
 use crate::case::{Case, Entry, Told};
 use crate::promise::Promise;
 use shared::bits::{
     all_ones, bytes_for, has_spare_bits, row as row_of, square_bytes, CHECK_BITS, LONGEST, MOST_ALLOWED, SHORTEST,
 };
 
-pub fn encode(block: &mut Block) {
-    refusals(block, Entry::Encode);
+pub fn encode(batch: &mut Batch) {
+    refusals(batch, Entry::Encode);
 }
 
-pub fn read(block: &mut Block) {
-    refusals(block, Entry::Read);
+pub fn read(batch: &mut Batch) {
+    refusals(batch, Entry::Read);
 }
 
-pub fn decode(block: &mut Block) {
-    refusals(block, Entry::Decode);
+pub fn decode(batch: &mut Batch) {
+    refusals(batch, Entry::Decode);
 }
 
-pub fn word(block: &mut Block) {
-    refusals(block, Entry::Word);
+pub fn word(batch: &mut Batch) {
+    refusals(batch, Entry::Word);
 }
 
 /// Values of n that are out of range, some of which are in range if a part of their bits is lost.
@@ -79,8 +79,8 @@ fn is_erased(case: &Case) -> bool {
     }
 }
 
-fn refusals(block: &mut Block, entry: Entry) {
-    let n = block.n;
+fn refusals(batch: &mut Batch, entry: Entry) {
+    let n = batch.n;
     let (input, output) = exact(entry, n);
     let next = exact(entry, if n < LONGEST { n + 1 } else { n - 1 });
     let allowances = match entry {
@@ -94,7 +94,7 @@ fn refusals(block: &mut Block, entry: Entry) {
     for input in around(input, next.0) {
         for output in around(output, next.1) {
             for &allowance in &allowances {
-                check(block, entry, n, (input, output), allowance);
+                check(batch, entry, n, (input, output), allowance);
             }
         }
     }
@@ -103,7 +103,7 @@ fn refusals(block: &mut Block, entry: Entry) {
         let own = if (18..300).contains(&bad) { exact(entry, bad) } else { (0, 0) };
         for lengths in [(input, output), (input, 0), (0, output), own] {
             for &allowance in &allowances {
-                check(block, entry, bad, lengths, allowance);
+                check(batch, entry, bad, lengths, allowance);
             }
         }
     }
@@ -111,21 +111,21 @@ fn refusals(block: &mut Block, entry: Entry) {
 
 /// Checks random bytes of these lengths. Where the lengths are right, most data has spare bits, and what should be a frame is
 /// none.
-fn check(block: &mut Block, entry: Entry, n: usize, lengths: (usize, usize), allowance: usize) {
-    let input = block.random.bytes(lengths.0);
-    let case = Case::new(&mut block.random, entry, n, input, lengths.1).with(allowance);
+fn check(batch: &mut Batch, entry: Entry, n: usize, lengths: (usize, usize), allowance: usize) {
+    let input = batch.random.bytes(lengths.0);
+    let case = Case::new(&mut batch.random, entry, n, input, lengths.1).with(allowance);
     let promise = refusal(&case).map_or(Promise::None, |number| Promise::refused(number, &case));
-    block.check(case, promise, &[]);
+    batch.check(case, promise, &[]);
 }
 
-/// Blocks of another length than the entry point asks for, whatever else is good or bad.
-pub fn block_of_decode(block: &mut Block) {
-    let (good, bad) = (square_bytes(block.n), [MOST_ALLOWED + 1, 0]);
-    for n in [block.n, SHORTEST - 1, LONGEST + 1] {
+/// Lent blocks of another length than the entry point asks for, whatever else is good or bad.
+pub fn block_of_decode(batch: &mut Batch) {
+    let (good, bad) = (square_bytes(batch.n), [MOST_ALLOWED + 1, 0]);
+    for n in [batch.n, SHORTEST - 1, LONGEST + 1] {
         for lengths in [(good, good), (good - 1, good), (good, good + 1), (0, 0)] {
-            for allowance in [block.random.within(1, MOST_ALLOWED), bad[block.random.below(2)]] {
+            for allowance in [batch.random.within(1, MOST_ALLOWED), bad[batch.random.below(2)]] {
                 for block_bytes in [0, 1, 4, 12, 19, 21, 24, 40] {
-                    check_block(block, (Entry::Decode, n, allowance), lengths, block_bytes);
+                    check_block(batch, (Entry::Decode, n, allowance), lengths, block_bytes);
                 }
             }
         }
@@ -133,15 +133,15 @@ pub fn block_of_decode(block: &mut Block) {
 }
 
 /// The same for the probes of words and of checks.
-pub fn block_of_probes(block: &mut Block) {
-    let good = bytes_for(block.n);
+pub fn block_of_probes(batch: &mut Batch) {
+    let good = bytes_for(batch.n);
     for block_bytes in [0, 1, 4, 11, 13, 20, 24] {
-        for n in [block.n, SHORTEST - 1, LONGEST + 1] {
+        for n in [batch.n, SHORTEST - 1, LONGEST + 1] {
             for lengths in [(good, good), (good - 1, good), (good, good + 1), (0, 0)] {
-                check_block(block, (Entry::Word, n, 0), lengths, block_bytes);
+                check_block(batch, (Entry::Word, n, 0), lengths, block_bytes);
             }
-            for checks in [block.random.below(1 << CHECK_BITS), 1 << CHECK_BITS] {
-                check_block(block, (Entry::Locate, n, checks), (0, 0), block_bytes);
+            for checks in [batch.random.below(1 << CHECK_BITS), 1 << CHECK_BITS] {
+                check_block(batch, (Entry::Locate, n, checks), (0, 0), block_bytes);
             }
         }
     }
@@ -149,12 +149,12 @@ pub fn block_of_probes(block: &mut Block) {
 
 /// What is received is zero, all ones, or random.
 fn check_block(
-    block: &mut Block,
+    batch: &mut Batch,
     (entry, n, argument): (Entry, usize, usize),
     (input, output): (usize, usize),
     block_bytes: usize,
 ) {
-    let random = &mut block.random;
+    let random = &mut batch.random;
     let input = match random.below(3) {
         0 => vec![0; input],
         1 => vec![0xff; input],
@@ -162,52 +162,52 @@ fn check_block(
     };
     let lent = random.bytes(block_bytes);
     let case = Case::new(random, entry, n, input, output).with(argument).with_block(lent);
-    block.check_refused(case, 11);
+    batch.check_refused(case, 11);
 }
 
-pub fn every_row(block: &mut Block) {
-    let n = block.n;
-    let frame = block.random.bytes(square_bytes(n));
+pub fn every_row(batch: &mut Batch) {
+    let n = batch.n;
+    let frame = batch.random.bytes(square_bytes(n));
     for i in 0..n {
-        let case = block.case(Entry::Row, frame.clone(), bytes_for(n)).with(i);
+        let case = batch.case(Entry::Row, frame.clone(), bytes_for(n)).with(i);
         let told = Told::number(bytes_for(n) as u64);
         let promise = Promise::told(Entry::Row, told, row_of(n, &frame, i).to_vec());
-        block.check(case, promise, &[]);
+        batch.check(case, promise, &[]);
     }
 }
 
 /// No row where n, the length or i is wrong. A part that is lent in another length than the row's is left alone.
-pub fn row(block: &mut Block) {
-    let (n, width) = (block.n, bytes_for(block.n));
-    let frame = block.random.bytes(square_bytes(n));
+pub fn row(batch: &mut Batch) {
+    let (n, width) = (batch.n, bytes_for(batch.n));
+    let frame = batch.random.bytes(square_bytes(n));
     for i in [n, n + 1, 2 * n, 255, 256, usize::MAX / 2, usize::MAX] {
         for part in [width, 0] {
             if i >= n {
-                part_untouched(block, n, frame.clone(), i, part, 0);
+                part_untouched(batch, n, frame.clone(), i, part, 0);
             }
         }
     }
     for &len in &around(square_bytes(n), square_bytes(n - 1))[1..] {
         for i in [0, n - 1, n] {
-            let frame = block.random.bytes(len);
-            part_untouched(block, n, frame, i, width, 0);
+            let frame = batch.random.bytes(len);
+            part_untouched(batch, n, frame, i, width, 0);
         }
     }
     for bad in bad_lengths() {
         for len in [square_bytes(n), 0] {
-            let frame = block.random.bytes(len);
-            let i = block.random.below(n);
-            part_untouched(block, bad, frame, i, width, 0);
+            let frame = batch.random.bytes(len);
+            let i = batch.random.below(n);
+            part_untouched(batch, bad, frame, i, width, 0);
         }
     }
     for &part in &around(width, 2)[1..] {
-        let i = block.random.below(n);
-        part_untouched(block, n, frame.clone(), i, part, width as u64);
+        let i = batch.random.below(n);
+        part_untouched(batch, n, frame.clone(), i, part, width as u64);
     }
 }
 
-fn part_untouched(block: &mut Block, n: usize, frame: Vec<u8>, i: usize, part: usize, bytes: u64) {
-    let case = Case::new(&mut block.random, Entry::Row, n, frame, part).with(i);
+fn part_untouched(batch: &mut Batch, n: usize, frame: Vec<u8>, i: usize, part: usize, bytes: u64) {
+    let case = Case::new(&mut batch.random, Entry::Row, n, frame, part).with(i);
     let promise = Promise::refused(bytes, &case);
-    block.check(case, promise, &[]);
+    batch.check(case, promise, &[]);
 }

@@ -21,7 +21,7 @@ const LIMITS: [&str; 2] = ["-s 72", "-v 16384"];
 /// An input that is made while it is written: one part, and then another many times.
 struct Parts<'a> {
     head: &'a [u8],
-    block: &'a [u8],
+    piece: &'a [u8],
     times: usize,
 }
 
@@ -33,13 +33,13 @@ struct Measured {
 
 impl Parts<'_> {
     fn write(&self, pipe: &mut ChildStdin) {
-        let mut parts = std::iter::once(self.head).chain((0..self.times).map(|_| self.block));
+        let mut parts = std::iter::once(self.head).chain((0..self.times).map(|_| self.piece));
         // A program that has said `bad header` need not read on.
         let _ = parts.try_for_each(|part| pipe.write_all(part));
     }
 
     fn len(&self) -> usize {
-        self.head.len() + self.times * self.block.len()
+        self.head.len() + self.times * self.piece.len()
     }
 }
 
@@ -74,7 +74,7 @@ fn measure_small(program: &Program, parts: &Parts) -> Measured {
 }
 
 /// Lines of all sorts, of which some hundreds fill the large input.
-fn block(maker: &mut Maker) -> Vec<u8> {
+fn lines(maker: &mut Maker) -> Vec<u8> {
     let (job, longest) = (maker.job, maker.job.longest_line);
     let mut texts = vec![
         records::good(maker, 256).text,
@@ -108,16 +108,16 @@ fn check(score: &mut Score, name: &str, small: &Measured, large: &Measured, expe
 
 pub fn checks(sides: &Sides, maker: &mut Maker, score: &mut Score) {
     let (program, job) = (sides.program, maker.job);
-    let (block, header) = (block(maker), [job.header(), b"\n".to_vec()].concat());
-    let [once, many] = [1, LARGE / block.len() + 1].map(|times| Parts { head: &header, block: &block, times });
+    let (lines, header) = (lines(maker), [job.header(), b"\n".to_vec()].concat());
+    let [once, many] = [1, LARGE / lines.len() + 1].map(|times| Parts { head: &header, piece: &lines, times });
     let small = measure_small(program, &once);
-    let expected = (job.of_all)(sides.code, &[&header[..], &block.repeat(many.times)].concat());
+    let expected = (job.of_all)(sides.code, &[&header[..], &lines.repeat(many.times)].concat());
     check(score, &job.check("64 MiB of lines of all sorts"), &small, &measure(program, &many), &expected);
     let limited = Program { limits: LIMITS.to_vec(), ..program.clone() };
     let little = "64 MiB with a stack of 72 KiB, and 16 MiB in all";
     check(score, &job.check(little), &small, &measure(&limited, &many), &expected);
     let piece = vec![b'A'; 1 << 16];
-    let endless = |head| measure(program, &Parts { head, block: &piece, times: LARGE / piece.len() });
+    let endless = |head| measure(program, &Parts { head, piece: &piece, times: LARGE / piece.len() });
     let bad = format!("{}\n?\t2\n", job.answer);
     check(score, &job.check("a line of 64 MiB"), &small, &endless(&header), bad.as_bytes());
     let mut first = endless(b"");

@@ -1,4 +1,4 @@
-//! The work is done in blocks, one for each kind of check, round and word length. A block has its own seed, so that the cases
+//! The work is done in batches, one for each kind of check, round and word length. A batch has its own seed, so that the cases
 //! are the same on any number of threads.
 
 use crate::case::{Case, Entry, Said};
@@ -26,7 +26,7 @@ pub struct Kind {
     pub lengths: RangeInclusive<usize>,
     /// Each answer of these must be met.
     pub answers: &'static str,
-    pub make: Box<dyn Fn(&mut Block) + Sync>,
+    pub make: Box<dyn Fn(&mut Batch) + Sync>,
 }
 
 impl Kind {
@@ -38,7 +38,7 @@ impl Kind {
     pub fn write(&self, code: &Code, n: usize, count: usize, sink: &mut dyn Write) {
         let random = Scale { seed: 1, rounds: 1, quick: true }.random(self.name, &[n as u64]);
         let count = count.min(self.count);
-        (self.make)(&mut Block { code, random, n, count, quick: true, tally: Tally::default(), sink: Some(sink) });
+        (self.make)(&mut Batch { code, random, n, count, quick: true, tally: Tally::default(), sink: Some(sink) });
     }
 
     /// Makes and checks all cases.
@@ -50,15 +50,15 @@ impl Kind {
             let (n, round) = (lengths[index % lengths.len()], index / lengths.len());
             let random = scale.random(self.name, &[round as u64, n as u64]);
             let count = if scale.quick { (self.count + 15) / 16 } else { self.count };
-            let mut block = Block { code, random, n, count, quick: scale.quick, tally: Tally::default(), sink: None };
-            (self.make)(&mut block);
-            tally.add(block.tally);
+            let mut batch = Batch { code, random, n, count, quick: scale.quick, tally: Tally::default(), sink: None };
+            (self.make)(&mut batch);
+            tally.add(batch.tally);
             true
         })
     }
 }
 
-pub struct Block<'a> {
+pub struct Batch<'a> {
     pub code: &'a Code,
     pub random: Random,
     pub n: usize,
@@ -69,7 +69,7 @@ pub struct Block<'a> {
     pub sink: Option<&'a mut dyn Write>,
 }
 
-impl Block<'_> {
+impl Batch<'_> {
     /// The frame of `data`, made by the second program and divided to see that it is one.
     pub fn write(&mut self, data: Vec<u8>) -> Written {
         let written = written::frame_of(self.code, self.n, data);
