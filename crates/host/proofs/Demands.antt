@@ -26,9 +26,9 @@ use Rattle.frame.proofs.SaidLaws.{figures-said}
 use Rattle.frame.proofs.Demands.{TwoSpoiled, writes, demand₁, demand₂}
 use Rattle.host.specs.Calls.{HostDecodes}
 
--- a call of decode with a block of 20 bytes
-abbrev pub HostDecodes₂₀ : ℕ → ℕ → List ℕ → List ℕ → ℕ → List ℕ → List ℕ → Type 0
-HostDecodes₂₀ n allowance received output r exit left =
+-- a call of decode that is lent a block of 20 bytes, whatever these are
+abbrev pub WithBlock : ℕ → ℕ → List ℕ → List ℕ → ℕ → List ℕ → List ℕ → Type 0
+WithBlock n allowance received output r exit left =
     (lent : List ℕ) × (length lent ≡ 20) × HostDecodes n allowance received output lent r exit left
 
 pub record HostDemands : Type 0 where
@@ -42,7 +42,7 @@ pub record HostDemands : Type 0 where
       → NumberTable (1 ∷ 2 ∷ 3 ∷ 10 ∷ 6 ∷ []) [] r
       (bytesOf (dataBits smallCode n) (corner (dataBits smallCode n) (frameOf n frame))) frame output exit
   pub decode-answers :
-      (n allowance : ℕ) (received output : List ℕ) (r : ℕ) (exit left : List ℕ) → HostDecodes₂₀ n allowance received output r exit left
+      (n allowance : ℕ) (received output : List ℕ) (r : ℕ) (exit left : List ℕ) → WithBlock n allowance received output r exit left
       → NumberTable (1 ∷ 2 ∷ 3 ∷ 4 ∷ 10 ∷ []) (7 ∷ 8 ∷ []) r
       (bytesOf n (decoded smallCode n allowance (frameOf n received) .last)) received output exit
   -- with a block of another length it gives 11, whatever else is wrong, and nothing is written
@@ -51,7 +51,7 @@ pub record HostDemands : Type 0 where
       → length lent ≢ 20 → (r ≡ 11) × (exit ≡ output) × (left ≡ lent)
   -- else the number returned is the first of the block's values, and each is within its bound
   pub values :
-      (n allowance : ℕ) (received output : List ℕ) (r : ℕ) (exit left : List ℕ) → HostDecodes₂₀ n allowance received output r exit left
+      (n allowance : ℕ) (received output : List ℕ) (r : ℕ) (exit left : List ℕ) → WithBlock n allowance received output r exit left
       → (r ≡ readBlock left .number) × Within n (readBlock left)
   -- demand 2: each keeps its entry point's rule, which names each number beside its reason. Decode's block is written whole, on a
   -- refusal too
@@ -61,7 +61,7 @@ pub record HostDemands : Type 0 where
   pub read :
       (n : ℕ) (frame output : List ℕ) (r : ℕ) (exit : List ℕ) → Reads n frame output r exit → ReadRule smallCode n frame output r exit
   pub decode :
-      (n allowance : ℕ) (received output : List ℕ) (r : ℕ) (exit left : List ℕ) → HostDecodes₂₀ n allowance received output r exit left
+      (n allowance : ℕ) (received output : List ℕ) (r : ℕ) (exit left : List ℕ) → WithBlock n allowance received output r exit left
       → (d : Decoded) × (left ≡ block (figuresOf d)) × (readBlock left ≡ figuresOf d) × DecodeRule smallCode n allowance received output d exit
   -- encode gives 10 for one message alone, 239 rows of ones at n = 256
   pub one-message :
@@ -74,20 +74,20 @@ pub record HostDemands : Type 0 where
       → (r ≡ 0) × (exit ≡ message)
   -- a call of decode is one of the library's, and its values are read out of the block
   pub library :
-      (n allowance : ℕ) (received output : List ℕ) (r : ℕ) (exit left : List ℕ) → HostDecodes₂₀ n allowance received output r exit left
+      (n allowance : ℕ) (received output : List ℕ) (r : ℕ) (exit left : List ℕ) → WithBlock n allowance received output r exit left
       → (q : code.Decoded) × Decodes n allowance received output q exit × (readBlock left ≡ figures q)
   -- demand 3
   pub comes-back :
       (n : ℕ) (message blank written : List ℕ) → Encodes n message blank 0 written
       → (received : List ℕ) → TwoSpoiled n written received → NotErased n received
       → (allowance : ℕ) (output : List ℕ) (r : ℕ) (exit left : List ℕ) → 2 ≤ allowance → allowance ≤ mostAllowed
-      → length output ≡ frameBytes n → HostDecodes₂₀ n allowance received output r exit left
+      → length output ≡ frameBytes n → WithBlock n allowance received output r exit left
       → (r ≡ 0) × (readBlock left .passes ≤ 2) × (exit ≡ written)
   -- whatever the allowance, number 0 means the written bytes, and the count is the number of wrong bits
   pub counts :
       (n : ℕ) (message blank written : List ℕ) → Encodes n message blank 0 written
       → (received : List ℕ) → TwoSpoiled n written received
-      → (allowance : ℕ) (output : List ℕ) (r : ℕ) (exit left : List ℕ) → HostDecodes₂₀ n allowance received output r exit left
+      → (allowance : ℕ) (output : List ℕ) (r : ℕ) (exit left : List ℕ) → WithBlock n allowance received output r exit left
       → r ≡ 0 → (exit ≡ written) × (readBlock left .bits ≡ wrongBits n written received)
   -- two calls alike return and leave the same, whatever the block's length; of encode and read the library's theorem says so
   pub determined :
@@ -105,7 +105,7 @@ record Got (n allowance : ℕ) (received output : List ℕ) (r : ℕ) (exit left
   read : readBlock left ≡ figuresOf (decodeSaid smallCode n allowance received output)
 
 got :
-    (n allowance : ℕ) (received output : List ℕ) (r : ℕ) (exit left : List ℕ) → HostDecodes₂₀ n allowance received output r exit left
+    (n allowance : ℕ) (received output : List ℕ) (r : ℕ) (exit left : List ℕ) → WithBlock n allowance received output r exit left
     → Got n allowance received output r exit left
 got n allowance received output r exit left c =
     let k = promised-small .blocks in

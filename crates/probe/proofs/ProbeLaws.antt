@@ -17,7 +17,7 @@ use Rattle.word.specs.declared.locate.Answer.{Answer}
 use Rattle.word.specs.declared.decode.Said.{Said}
 use Rattle.word.specs.Said.{answerOf, saidOf}
 use Rattle.word.specs.declared.decode.Said.the-variants.{Refused, Answered}
-use Rattle.probe.specs.Calls.{answerNumber, answerPlaces, saidNumber, saidPlaces, saidLocated, InBlock, ProbesWord, ProbesChecks}
+use Rattle.probe.specs.Calls.{saidNumber, saidPlaces, saidLocated, InBlock, ProbesWord, ProbesChecks}
 
 -- the copied row, or what was lent where it is not as long
 pub row-copied :
@@ -48,22 +48,18 @@ located-answer n c a h k is = rw (h, lt-leb (checksEnd smallCode) c k) (ap Answe
 
 -- ---- what is said, in a block
 
--- by its case
-pub answer-put :
-    (a b : Answer) (r : ℕ) (s : List ℕ) → a ≡ b → (r ≡ answerNumber b) × (s ≡ inBytes (answerPlaces b))
-    → (r ≡ answerNumber a) × (s ≡ inBytes (answerPlaces a))
-answer-put a b r s is h = (h .0 ∙ ap answerNumber (sym is), h .1 ∙ ap (λ x. inBytes (answerPlaces x)) (sym is))
-
-pub said-put :
-    (a b : Said) (r : ℕ) (s : List ℕ) → a ≡ b → (r ≡ saidNumber b) × (s ≡ inBytes (saidPlaces b))
-    → (r ≡ saidNumber a) × (s ≡ inBytes (saidPlaces a))
-said-put a b r s is h = (h .0 ∙ ap saidNumber (sym is), h .1 ∙ ap (λ x. inBytes (saidPlaces x)) (sym is))
+-- by its case, of an answer and of what is said
+pub put-case :
+    {A : Type 0} (number : A → ℕ) (places : A → List ℕ) (a b : A) (r : ℕ) (s : List ℕ) → a ≡ b
+    → (r ≡ number b) × (s ≡ inBytes (places b)) → (r ≡ number a) × (s ≡ inBytes (places a))
+put-case number places a b r s is h = (h .0 ∙ ap number (sym is), h .1 ∙ ap (λ x. inBytes (places x)) (sym is))
 
 -- by the length of the block
 of-length :
     (said d : Said) (lent left : List ℕ) (r : ℕ) → length lent ≡ 12 → d ≡ said → (r ≡ saidNumber d) × (left ≡ inBytes (saidPlaces d))
     → InBlock said lent r left
-of-length said d lent left r long is h = let k = said-put said d r left (sym is) h in rw (eq-eqb (length lent) 12 long) k
+of-length said d lent left r long is h =
+    let k = put-case saidNumber saidPlaces said d r left (sym is) h in rw (eq-eqb (length lent) 12 long) k
 
 other-length : (said : Said) (lent : List ℕ) → length lent ≢ 12 → InBlock said lent 11 lent
 other-length said lent h = rw (ne-eqb (length lent) 12 h) (refl, refl)

@@ -3,7 +3,6 @@ use block::put::put_numbers;
 use word::decode::Said;
 use word::locate::Answer;
 use word::locate::locate;
-use word::numbers::BAD_INPUT_LENGTH;
 use word::numbers::BAD_N;
 use word::numbers::DONE;
 use word::sizes::outside;
@@ -13,8 +12,10 @@ ghost use lib.ListN.{length};
 ghost use Rattle.rules.specs.Block.{inBytes};
 ghost use Rattle.probe.specs.Calls.{placesBytes, answerNumber, answerPlaces, saidNumber, saidPlaces, saidLocated};
 
-// All checks lie below it.
+// All checks lie below it, and what does not gives this number.
 const CHECKS_END: u32 = 131072;
+
+const NO_CHECKS: u32 = 2;
 
 // The number where no codeword is near enough.
 const BEYOND: u32 = 9;
@@ -59,7 +60,7 @@ pub(crate) fn locate_said(n: usize, checks: u32) -> Said
         return Said::Refused(BAD_N);
     }
     if CHECKS_END <= checks {
-        return Said::Refused(BAD_INPUT_LENGTH);
+        return Said::Refused(NO_CHECKS);
     }
     Said::Answered(locate(n, checks))
 }

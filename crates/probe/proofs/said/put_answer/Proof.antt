@@ -2,7 +2,8 @@
 -- Assumes nothing.
 use borrow.Author.Needs.{needs}
 use Rattle.word.specs.declared.locate.Answer.the-variants.{Codeword, OnePlace, TwoPlaces, Beyond}
-use Rattle.probe.proofs.ProbeLaws.{answer-put}
+use Rattle.probe.specs.Calls.{answerNumber, answerPlaces}
+use Rattle.probe.proofs.ProbeLaws.{put-case}
 use Rattle.probe.proofs.said.put_answer.Statement.{statement}
 use Rattle.probe.proofs.said.put_answer.Tie as tie
 
@@ -35,7 +36,8 @@ same-length c = search needs
 
 returns : tie.Need-returns
 returns c =
-    answer-put _ Codeword _ _ (c .before .before .before .before .enum-told .given .1) (c .before .before .put-places .ensures)
+    put-case answerNumber answerPlaces _ Codeword _ _ (c .before .before .before .before .enum-told .given .1)
+    (c .before .before .put-places .ensures)
 
 same-length-2 : tie.Need-same-length-2
 same-length-2 c = search needs
@@ -43,7 +45,7 @@ same-length-2 c = search needs
 returns-2 : tie.Need-returns-2
 returns-2 c =
     let g = c .before .before .before .before .before .a .given in
-    answer-put _ (OnePlace (g .0 .0)) _ _ (g .1) (c .before .before .put-places2 .ensures)
+    put-case answerNumber answerPlaces _ (OnePlace (g .0 .0)) _ _ (g .1) (c .before .before .put-places2 .ensures)
 
 same-length-3 : tie.Need-same-length-3
 same-length-3 c = search needs
@@ -51,14 +53,15 @@ same-length-3 c = search needs
 returns-3 : tie.Need-returns-3
 returns-3 c =
     let g = c .before .before .before .before .before .a2 .given in
-    answer-put _ (TwoPlaces (g .0 .0) (g .0 .1 .0)) _ _ (g .1) (c .before .before .put-places3 .ensures)
+    put-case answerNumber answerPlaces _ (TwoPlaces (g .0 .0) (g .0 .1 .0)) _ _ (g .1) (c .before .before .put-places3 .ensures)
 
 same-length-4 : tie.Need-same-length-4
 same-length-4 c = search needs
 
 returns-4 : tie.Need-returns-4
 returns-4 c =
-    answer-put _ Beyond _ _ (c .before .before .before .before .enum-told2 .given .1) (c .before .before .put-places4 .ensures)
+    put-case answerNumber answerPlaces _ Beyond _ _ (c .before .before .before .before .enum-told2 .given .1)
+    (c .before .before .put-places4 .ensures)
 
 pub put-answer-spec : {M : Type 1} → statement M
 put-answer-spec =

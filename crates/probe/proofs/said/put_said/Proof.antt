@@ -2,7 +2,8 @@
 -- Assumes nothing.
 use borrow.Author.Needs.{needs}
 use Rattle.word.specs.declared.decode.Said.the-variants.{Refused, Answered}
-use Rattle.probe.proofs.ProbeLaws.{said-put}
+use Rattle.probe.specs.Calls.{saidNumber, saidPlaces}
+use Rattle.probe.proofs.ProbeLaws.{put-case}
 use Rattle.probe.proofs.said.put_said.Statement.{statement}
 use Rattle.probe.proofs.said.put_said.Tie as tie
 
@@ -24,7 +25,7 @@ same-length c = search needs
 returns : tie.Need-returns
 returns c =
     let g = c .before .before .before .before .before .said .given in
-    said-put _ (Refused (g .0 .0)) _ _ (g .1) (c .before .before .put-places .ensures)
+    put-case saidNumber saidPlaces _ (Refused (g .0 .0)) _ _ (g .1) (c .before .before .put-places .ensures)
 
 same-length-2 : tie.Need-same-length-2
 same-length-2 c = search needs
@@ -32,7 +33,7 @@ same-length-2 c = search needs
 returns-2 : tie.Need-returns-2
 returns-2 c =
     let g = c .before .before .before .before .before .said2 .given in
-    said-put _ (Answered (g .0 .0)) _ _ (g .1) (c .before .before .put-answer .ensures)
+    put-case saidNumber saidPlaces _ (Answered (g .0 .0)) _ _ (g .1) (c .before .before .put-answer .ensures)
 
 pub put-said-spec : {M : Type 1} → statement M
 put-said-spec =
