@@ -2,7 +2,7 @@
 -- Assumes nothing.
 use mathlib.Core.Path.{◌≡◌, refl, sym, ap, ap₂, ◌∙◌}
 use mathlib.Core.List.{List, [], ◌∷◌}
-use mathlib.Core.Bool.{Bool, true, ◌&&◌}
+use mathlib.Core.Bool.{Bool, true, false, ◌&&◌}
 use Prim.Native.Nat.{ℕ, zero, suc, ◌+◌, ◌*◌, ◌-◌, ◌/◌, ◌%◌, ◌^◌, ◌<◌}
 use native.Mathlib.Nat.{zero-mul, one-mul, pow-suc}
 use native.Mathlib.Decide.{dec_lt}
@@ -76,9 +76,11 @@ agree (suc k) f g hf hg e x h = go (dec_lt x (2 ^ k)) (agree k f g hf hg (λ i h
 -- a test that passed as a whole passed in each half
 pub T_left : (a b : Bool) → T (a && b) → T a
 T_left true b h = tt
+T_left false b h = elim h [ ]
 
 pub T_right : (a b : Bool) → T (a && b) → T b
 T_right true b h = h
+T_right false b h = elim h [ ]
 
 -- the basis lemma's premise, as a test to be computed
 unfoldable pub agrees : ℕ → (ℕ → ℕ) → (ℕ → ℕ) → Bool

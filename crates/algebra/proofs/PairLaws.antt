@@ -131,6 +131,7 @@ module _ (m : Marking) (fit : Fit m) where
     where
       T_true : {b : Bool} → lib.Dec.T b → b ≡ true
       T_true {b = true} h = refl
+      T_true {b = false} h = elim h [ ]
 
       either : {a x y : ℕ} → eqb a x || eqb a y ≡ true → (a ≡ x) ⊎ (a ≡ y)
       either {a} {x} {y} = go (eqb a x) refl

@@ -1,1 +1,2 @@
 // Mathematics only: the definitions stand in specs/, what is shown of them in proofs/.
+#![tactic(auto)]

@@ -1,4 +1,6 @@
 // Each entry point at the edges of what it accepts: what it answers, and whether the lent output was touched.
+#![tactic(auto)]
+
 mod calls;
 mod show;
 

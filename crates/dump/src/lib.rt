@@ -1,4 +1,6 @@
 // What each line of a dump gives in the report.
+#![tactic(auto)]
+
 mod line;
 mod report;
 pub mod say;

@@ -1,4 +1,6 @@
 // Square code frames.
+#![tactic(auto)]
+
 pub mod decode;
 pub mod encode;
 pub mod read;

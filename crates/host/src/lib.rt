@@ -1,3 +1,5 @@
 // What C calls.
+#![tactic(auto)]
+
 pub mod exports;
 mod figures;

@@ -1,4 +1,6 @@
 // Standard input, line by line, for every program over texts.
+#![tactic(auto)]
+
 ghost use Rattle.std.specs.Prelude.{◌≡◌, ◌≤◌, length};
 ghost use Rattle.input.specs.Calls.{at_begin, has_more, TakesLine, Stops, Steps};
 

@@ -1,5 +1,7 @@
 // Places found by their marks: the one, or the two, that leave a remainder. The tables are lent; a place goes by its exponent, which lies
 // below a bound.
+#![tactic(auto)]
+
 ghost use Rattle.std.specs.Prelude.{◌≡◌, ◌*◌, ◌≤◌, ◌<◌};
 ghost use Rattle.algebra.specs.Marking.{order, mark_of, Reduced, Slot};
 ghost use Rattle.algebra.specs.Field256.{small_marking};

@@ -1,4 +1,6 @@
 // The desktop program: a dump from standard input, its report to standard output.
+#![tactic(auto)]
+
 ghost use Rattle.textrules.specs.Dump.{header};
 ghost use Rattle.lines.specs.Stream.{at_start};
 ghost use Rattle.lines.specs.Calls.{LeavesSome};

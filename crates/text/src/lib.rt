@@ -1,4 +1,6 @@
 // Texts in lent buffers: compared, digits, hex and fields read, words, numbers and hex written.
+#![tactic(auto)]
+
 pub mod compare;
 pub mod hex;
 pub mod number;

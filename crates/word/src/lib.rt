@@ -1,4 +1,6 @@
 // Words of an extended BCH code in a packed buffer: 18 to 256 bits, all but 17 of them data.
+#![tactic(auto)]
+
 pub mod bits;
 pub mod checks;
 pub mod decode;

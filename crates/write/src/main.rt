@@ -1,4 +1,6 @@
 // The factory's program: data from standard input, their dump to standard output.
+#![tactic(auto)]
+
 ghost use Rattle.textrules.specs.Factory.{data_header};
 ghost use Rattle.lines.specs.Stream.{at_start};
 ghost use Rattle.lines.specs.Calls.{LeavesSome};
