@@ -152,7 +152,7 @@ pub fn decode(n: usize, allowance: usize, received: &[u8], frame: &mut [u8]) -> 
     let report = repair(n, allowance, received, frame);
     let ending = report.ending;
     if is_failure(ending) {
-        bytes::copy(received, frame);
+        frame.copy_from_slice(received);
     }
     Decoded::Ended(report)
 }

@@ -46,7 +46,7 @@ pub extern "C" fn probe_row(n: usize, frame: &[u8], i: usize, part: &mut [u8]) -
 {
     let bytes = row(n, frame, i);
     if bytes.len() == part.len() {
-        bytes::copy(bytes, part);
+        part.copy_from_slice(bytes);
     }
     bytes.len()
 }

@@ -1,22 +1,20 @@
 -- What is said of a word, from the rules' cases to the code's: the number is the same, and what decoding a word owes.
 -- Assumes nothing.
 use mathlib.Core.Path.{◌≡◌, refl, sym, ap, ◌∙◌}
-use mathlib.Core.List.{List, [], ◌∷◌, ◌++◌}
+use mathlib.Core.List.{List, [], ◌∷◌}
 use mathlib.Core.Option.{Option, some, none}
 use Prim.Native.Nat.{ℕ, ◌≤◌}
 use native.Mathlib.Omega.{arith}
-use lib.ListN.{length, take, drop}
+use lib.ListN.{length}
 use Rattle.algebra.specs.Words.{Word}
 use Rattle.rules.specs.Codes.{radius, small_code}
 use Rattle.rules.specs.Words as rules
 use Rattle.rules.specs.Bits.{row_bytes, word_of, word_bytes}
 use Rattle.rules.specs.Numbers.{WordSaid, word_refused, answered, word_number, word_said, word_output}
 use Rattle.rules.proofs.Laws.SmallCode.{sound_small}
-use Rattle.rules.proofs.Laws.PackLaws.{word_bytes-length}
 use Rattle.rules.proofs.Laws.NumberLaws.{Sized}
 use Rattle.rules.proofs.Promises.CountBounds.{mend_flips}
 use Rattle.laws.specs.InPlace.{word_at, put}
-use Rattle.laws.proofs.CopyLaws.{copied_whole}
 use Rattle.laws.proofs.WordBytesLaws.{word_says, word_kept, word_handed, word_answer, word_mended}
 use Rattle.word.specs.declared.locate.Answer.{Answer}
 use Rattle.word.specs.declared.locate.Answer.TheVariants.{Codeword, OnePlace, TwoPlaces, Beyond}
@@ -87,10 +85,9 @@ module _ (n : ℕ) (input output : List ℕ) where
       pub accepted : (r ≡ Beyond → ⊥) → Exit (Answered r) t
       accepted k = (is_said, holds ∙ word_handed small_code n input output f (λ e. k (is_told ∙ ap answer_of e)))
 
-      pub kept : r ≡ Beyond → (out : List ℕ) → out ≡ take (length input) input ++ drop (length input) t → Exit (Answered r) out
+      pub kept : r ≡ Beyond → (out : List ℕ) → out ≡ input → Exit (Answered r) out
       kept b out e = (
         is_said,
         e
-            ∙ copied_whole (length input) input t refl (f.taken ∙ sym (ap length holds ∙ word_bytes-length n (rules.mend small_code n (word_of n input 0))))
             ∙ word_kept small_code n input output f (answer_beyond (rules.answer small_code n (word_of n input 0)) (sym is_told ∙ b)),
       )

@@ -42,7 +42,7 @@ pub fn decode_word(n: usize, received: &[u8], word: &mut [u8]) -> Said
     copy_word(n, received, word);
     let answer = mend(n, word, 0, 1);
     if let Answer::Beyond = answer {
-        bytes::copy(received, word);
+        word.copy_from_slice(received);
     }
     Said::Answered(answer)
 }

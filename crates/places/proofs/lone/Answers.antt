@@ -4,7 +4,6 @@ use native.Mathlib.Omega.{arith}
 use Rattle.algebra.specs.Field256.{small_marking}
 use Rattle.algebra.proofs.Field256Laws.{fit256}
 use Rattle.laws.proofs.LocateSteps.{lone-zero, lone_far, lone_other, lone_found}
-use borrow.Author.Rules.{rules}
 use Rattle.places.proofs.lone.Goals as goal
 
 pub returns-then-power-eq0 : goal.returns-then-power-eq0

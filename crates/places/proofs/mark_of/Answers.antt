@@ -1,10 +1,10 @@
 -- `places::mark_of`: the mark, bit after bit of the remainder.
-use Prim.Native.Nat.{◌-◌, ◌%◌, ◌≤◌}
+use Prim.Native.Nat.{◌%◌}
 use native.Mathlib.Omega.{arith}
 use Rattle.algebra.specs.Xor.{◌⊕◌}
 use Rattle.algebra.specs.Field256.{small_marking}
 use Rattle.algebra.proofs.RegisterLaws.{digit_lt}
-use Rattle.laws.proofs.LocateSteps.{Marked, marked_none, marked_one, marked_all}
+use Rattle.laws.proofs.LocateSteps.{marked_none, marked_one, marked_all}
 use borrow.Author.Rules.{rules}
 use Rattle.places.proofs.mark_of.Goals as goal
 

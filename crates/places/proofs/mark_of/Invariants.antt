@@ -1,11 +1,7 @@
 -- `places::mark_of`: the mark, bit after bit of the remainder.
-use Prim.Native.Nat.{◌-◌, ◌%◌, ◌≤◌}
-use native.Mathlib.Omega.{arith}
-use Rattle.algebra.specs.Xor.{◌⊕◌}
+use Prim.Native.Nat.{◌-◌, ◌≤◌}
 use Rattle.algebra.specs.Field256.{small_marking}
-use Rattle.algebra.proofs.RegisterLaws.{digit_lt}
-use Rattle.laws.proofs.LocateSteps.{Marked, marked_none, marked_one, marked_all}
-use borrow.Author.Rules.{rules}
+use Rattle.laws.proofs.LocateSteps.{Marked}
 use Rattle.places.proofs.mark_of.Given as goal
 
 abbrev pub invariant-loop-i : goal.invariant-loop-i

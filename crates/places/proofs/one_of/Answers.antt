@@ -3,7 +3,6 @@ use mathlib.Core.Path.{sym, ◌∙◌}
 use Rattle.algebra.specs.Field256.{small_marking}
 use Rattle.algebra.proofs.Field256Laws.{fit256}
 use Rattle.laws.proofs.LocateSteps.{no_power, half_one}
-use borrow.Author.Rules.{rules}
 use Rattle.places.proofs.one_of.Goals as goal
 
 pub returns-then-power-eq0 : goal.returns-then-power-eq0

@@ -4,7 +4,6 @@ use Rattle.algebra.specs.Xor.{◌⊕◌}
 use Rattle.algebra.specs.Field256.{small_marking}
 use Rattle.algebra.proofs.Field256Laws.{fit256}
 use Rattle.laws.proofs.LocateSteps.{pair_far, pair_above, pair_below}
-use borrow.Author.Rules.{rules}
 use Rattle.places.proofs.pair.Goals as goal
 
 pub returns-then-bound-e : goal.returns-then-bound-e

@@ -3,7 +3,6 @@ use mathlib.Core.Path.{ap}
 use native.Mathlib.Omega.{arith}
 use lib.ListN.{set}
 use lib.Bits.{and_mask}
-use borrow.Author.Rules.{rules}
 use Rattle.block.proofs.put.put_low_byte.Goals as goal
 
 pub overflow_cast-block : goal.overflow_cast-block

@@ -1,5 +1,4 @@
 -- `put::put_number` meets its contract: each shift brings the next byte down.
-use borrow.Author.Rules.{rules}
 use Rattle.block.proofs.PutLaws.{bytes_put}
 use Rattle.block.proofs.put.put_number.Goals as goal
 

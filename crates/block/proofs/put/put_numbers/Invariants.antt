@@ -1,10 +1,6 @@
 -- `put::put_numbers` meets its contract: the loop has put the first `i` numbers.
-use mathlib.Core.Path.{refl}
 use Prim.Native.Nat.{◌-◌}
-use native.Mathlib.Omega.{arith}
-use borrow.Author.Rules.{rules}
 use Rattle.block.specs.Put.{PutSoFar}
-use Rattle.block.proofs.PutLaws.{put-none, put_more, put_all}
 use Rattle.block.proofs.put.put_numbers.Given as goal
 
 abbrev pub invariant-loop-i : goal.invariant-loop-i

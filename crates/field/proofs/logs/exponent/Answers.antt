@@ -1,7 +1,6 @@
 -- `field::logs::exponent` meets its contract: the lent table is the list of `algebra`.
 use mathlib.Core.Path.{ap, ◌∙◌}
 use lib.ListN.{get_or}
-use borrow.Author.Rules.{rules}
 use Rattle.algebra.proofs.Field256Laws.{log256_small}
 use Rattle.field.proofs.logs.exponent.Goals as goal
 

@@ -1,7 +1,6 @@
 -- `field::marks::mark_at` meets its contract: the lent table is the list of `algebra`.
 use mathlib.Core.Path.{ap}
 use lib.ListN.{get_or}
-use borrow.Author.Rules.{rules}
 use Rattle.field.proofs.marks.mark_at.Goals as goal
 
 pub returns : goal.returns

@@ -1,5 +1,4 @@
 -- `sizes::outside` tells whether n is not in 18..256.
--- Assumes nothing.
 use mathlib.Core.Path.{◌≡◌}
 use mathlib.Core.Bool.{not, ◌&&◌}
 use Prim.Native.Nat.{ℕ, ◌≤◌, ◌<◌}
@@ -7,8 +6,7 @@ use native.Mathlib.Decide.{dec_lt}
 use native.Mathlib.Omega.{arith}
 use borrow.Author.Tests.{lt-ltb, le-ltb, le-leb, lt-leb}
 use lib.Dec.{ltb, leb}
-use Rattle.word.proofs.sizes.outside.Statement.{statement}
-use Rattle.word.proofs.sizes.outside.Tie as tie
+use Rattle.word.proofs.sizes.outside.Goals as goal
 
 above : (n : ℕ) → 18 ≤ n → ltb 256 n ≡ not (leb 18 n && leb n 256)
 above n h = rw (le-leb 18 n h) (go (dec_lt 256 n))
@@ -17,11 +15,8 @@ above n h = rw (le-leb 18 n h) (go (dec_lt 256 n))
     go (yes l) = rw (lt-ltb 256 n l, lt-leb n 256 l)
     go (no l) = let k : n ≤ 256 = omega (arith, l) in rw (le-ltb 256 n k, le-leb n 256 k)
 
-returns : tie.Need-returns
-returns c = rw (lt-leb 18 c.before.args.n c.if1.true)
+pub returns-then-n-lt-SHORTEST : goal.returns-then-n-lt-SHORTEST
+returns-then-n-lt-SHORTEST c = rw (lt-leb 18 c.args.n c.if-n-lt-SHORTEST.true)
 
-returns-2 : tie.Need-returns-2
-returns-2 c = above c.before.args.n c.if1.false
-
-pub outside-spec : {M : Type 1} → statement M
-outside-spec = tie.close (tie.spec returns returns-2)
+pub returns : goal.returns
+returns c = above c.args.n c.if-n-lt-SHORTEST.false
