@@ -17,7 +17,7 @@ use word::sizes::outside;
 
 const MOST_ALLOWED: usize = 200;
 
-#[derive(Drop)]
+#[derive(Clone, Copy)]
 pub enum Ending {
     Clean,
     Repaired,
@@ -28,7 +28,7 @@ pub enum Ending {
 
 // Bits: in how many code bits the last frame differs from the received one, also where it is not handed out.
 // Rows and columns: those left at the end that are no codewords; only stuck and spent have any.
-#[derive(Drop)]
+#[derive(Clone, Copy)]
 pub struct Report {
     pub ending: Ending,
     pub passes: usize,
@@ -38,7 +38,7 @@ pub struct Report {
 }
 
 // A refusal by its number, or how decoding ended.
-#[derive(Drop)]
+#[derive(Clone, Copy)]
 pub enum Decoded {
     Refused(u32),
     Ended(Report),

@@ -1,0 +1,13 @@
+-- `frame::words::encode_words` meets its contract. The loop's invariant is `Encoding`: the frame with its first k words encoded.
+use Prim.Native.Nat.{◌-◌}
+use borrow.Author.Rules.{rules}
+use Rattle.laws.proofs.EncodeLaws.{Encoding, encoding_start, encoding_inside, encoding_next, encoding_end}
+use Rattle.rules.specs.Codes.{small_code}
+use Rattle.rules.proofs.Laws.SmallCode.{sound_small}
+use Rattle.frame.proofs.words.encode_words.Given as goal
+
+abbrev pub invariant-loop-k : goal.invariant-loop-k
+invariant-loop-k l = Encoding small_code l.n l.initial.s l.columns l.m l.by l.k l.s
+
+abbrev pub decreases-loop-k : goal.decreases-loop-k
+decreases-loop-k l = l.m - l.k
