@@ -13,7 +13,7 @@ use lib.Seq.{take-suc-set}
 use borrow.Author.Tests.{eq-eqb, ne_eqb, lt-ltb, le-leb, lt-leb}
 use Rattle.rules.specs.Numbers.{pick}
 use Rattle.textrules.specs.Text.{Text, lf, same, lines}
-use Rattle.textrules.specs.Programs.{bad_header, questioned, Program, output_from, under_header, output}
+use Rattle.textrules.specs.Programs.{bad_header, Program, output_from, under_header, output}
 use Rattle.textrules.proofs.Laws.TextLaws.{all_append}
 use Rattle.textrules.proofs.Promises.Lines.{NoLF, lines_cut, lines_open}
 use Rattle.textrules.proofs.Promises.Outputs.{same_is}

@@ -7,7 +7,7 @@ use text::compare::same;
 
 // The number of the line being read, its characters so far (one more than the most says too long), and whether the header was
 // bad: then nothing more happens.
-#[derive(Drop)]
+#[derive(Clone, Copy)]
 pub struct State {
     pub number: usize,
     pub length: usize,

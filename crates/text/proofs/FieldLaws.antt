@@ -8,9 +8,9 @@ use Prim.Native.Nat.{ℕ, suc, ◌+◌, ◌-◌, ◌≤◌, ◌<◌}
 use native.Mathlib.Omega.{arith}
 use lib.Dec.{eqb, ltb}
 use lib.ListN.{length, take, drop, get_or, length-drop}
-use lib.Seq.{take-length, drop-drop}
+use lib.Seq.{drop-drop}
 use borrow.Author.Tests.{ltb-true, ltb-false, lt-ltb, le-ltb}
-use Rattle.bytes.specs.Bytes.{index_of, index_after, slice}
+use Rattle.text.specs.Find.{index_of, index_after}
 use Rattle.rules.specs.Numbers.{pick}
 use Rattle.textrules.specs.Text.{Text, tabulator, onto, parted, fields, is_decimal, decimal_value}
 use Rattle.rules.proofs.Laws.OneOfLaws.{and_both}
@@ -27,7 +27,7 @@ use Rattle.text.proofs.ReadLaws.{number_read, number_not}
 pub fields_closed :
     (s : Text) → index_of tabulator s < length s
     → fields s ≡ take (index_of tabulator s) s ∷ fields (drop (suc (index_of tabulator s)) s)
-unfolding fields index_of index_after
+unfolding fields index_of
 fields_closed [] h = absurd (omega arith)
 fields_closed (x ∷ s) h = go (eqb x tabulator) h (fields_closed s)
   where
@@ -40,7 +40,7 @@ fields_closed (x ∷ s) h = go (eqb x tabulator) h (fields_closed s)
     go false h later = ap (onto x) (later (omega arith))
 
 pub fields_open : (s : Text) → length s ≤ index_of tabulator s → fields s ≡ s ∷ []
-unfolding fields index_of index_after
+unfolding fields index_of
 fields_open [] h = refl
 fields_open (x ∷ s) h = go (eqb x tabulator) h (fields_open s)
   where
@@ -73,11 +73,7 @@ module _ (s : Text) (from : ℕ) where
       ap (λ (b : Bool). pick b good_field bad_field) e
 
   -- what the search for the tab says
-  module _ (end : ℕ) (found : end ≡ from + index_of tabulator (slice from (length s) s)) where
-    place : end ≡ from + tab_at
-    unfolding slice
-    place = found ∙ ap (λ (l : Text). from + index_of tabulator (drop from l)) (take-length s)
-
+  module _ (end : ℕ) (place : end ≡ from + index_of tabulator (drop from s)) where
     pub field_open : from ≤ length s → length s ≤ end → bad_field ≡ field_of s from
     field_open l h =
         let beyond : ltb tab_at (length (drop from s)) ≡ false =

@@ -6,6 +6,7 @@ pub mod HexLaws
 -- Texts compared
 pub mod SameLaws
 -- A line's fields
+pub mod FindLaws
 pub mod ReadLaws
 pub mod FieldLaws
 -- Whole lines

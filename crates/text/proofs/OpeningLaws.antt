@@ -9,7 +9,7 @@ use native.Mathlib.Omega.{arith}
 use lib.Dec.{eqb, leb, ltb}
 use lib.ListN.{length, drop, get_or}
 use borrow.Author.Tests.{ltb-true, ltb-false, le-leb, eqb-true, eq-eqb}
-use Rattle.bytes.specs.Bytes.{index_of}
+use Rattle.text.specs.Find.{index_of}
 use Rattle.textrules.specs.Text.{Text, tabulator, parted, fields, field_at, every, is_decimal, decimal_value, is_hex_digit, is_hex}
 use Rattle.rules.proofs.Laws.OneOfLaws.{and_both}
 use Rattle.textrules.proofs.Laws.TextLaws.{all_so, every_all, fields_one}

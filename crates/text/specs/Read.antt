@@ -1,6 +1,6 @@
 -- RULES 8: what the functions that read a line answer, in the code's own types.
 use Rattle.std.specs.Prelude.{Bool, true, false, ◌&&◌, [], ◌∷◌, ℕ, ◌+◌, ◌*◌, ltb, length, take, drop}
-use Rattle.bytes.specs.Bytes.{index_of}
+use Rattle.text.specs.Find.{index_of}
 use Rattle.rules.specs.Numbers.{pick}
 use Rattle.textrules.specs.Text.{Text, tabulator, is_digit, digit_value, is_decimal, decimal_value}
 use Rattle.text.specs.declared.number.Decimal.{Decimal}

@@ -1,9 +1,9 @@
 // The fields of a line: numbers closed by tabs, and the hex digits after them.
-ghost use Rattle.std.specs.Prelude.{◌≡◌, ◌≤◌, length};
+ghost use Rattle.std.specs.Prelude.{◌≡◌, ◌+◌, ◌≤◌, length, drop};
+ghost use Rattle.text.specs.Find.{index_of};
 ghost use Rattle.text.specs.Read.{field_of, opening_of, bad_opening, head_of, bad_head};
 
 use crate::number::{Decimal, number};
-use bytes::scan::find;
 
 // A number closed by a tab; `after` is the place after the tab.
 #[derive(Drop)]
@@ -32,12 +32,26 @@ pub struct Head {
     pub frame: usize,
 }
 
+// The first place of `b` from `from` on, or the end of the line where there is none.
+fn find(line: &[u8], from: usize, b: u8) -> usize
+    requires { from ≤ length line.now }
+    ensures value { result ≡ from + index_of b (drop from line.now) }
+    ensures in_bounds { result ≤ length line.now }
+{
+    for i in from..line.len() {
+        if line[i] == b {
+            return i;
+        }
+    }
+    line.len()
+}
+
 fn number_field(line: &[u8], from: usize) -> Field
     requires { from ≤ length line.now }
     ensures value { result ≡ field_of line.now from }
     ensures after_in_bounds { result.after ≤ length line.now }
 {
-    let end = find(line, from, line.len(), b'\t');
+    let end = find(line, from, b'\t');
     if end >= line.len() {
         return Field {
             is_good: false,
