@@ -21,11 +21,11 @@ use Rattle.probe.specs.Calls.{said_number, said_places, said_located, InBlock, P
 
 -- the copied row, or what was lent where it is not as long
 pub row_copied :
-    (p b t u : List ℕ) → b ≡ p → length b ≡ length t → u ≡ take (length b) b ++ drop (length b) t
+    (p b t u : List ℕ) → b ≡ p → length b ≡ length t → u ≡ b
     → (length b ≡ length p) × (u ≡ pick (eqb (length p) (length t)) p t)
 row_copied p b t u is l h =
     let e : pick (eqb (length p) (length t)) p t ≡ p = rw (eq-eqb (length p) (length t) (ap length (sym is) ∙ l)) in
-    (ap length is, h ∙ copied_whole (length b) b t refl l ∙ is ∙ sym e)
+    (ap length is, h ∙ is ∙ sym e)
 
 pub row_left :
     (p b t : List ℕ) → b ≡ p → length b ≢ length t → (length b ≡ length p) × (t ≡ pick (eqb (length p) (length t)) p t)
