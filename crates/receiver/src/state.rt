@@ -10,14 +10,14 @@ use word::numbers::{BAD_INPUT_LENGTH, BAD_N, DONE, PAST_FRAME};
 use word::sizes::outside;
 
 // The rows of the frame, and how many of its bytes have come. Any two numbers are a state: what is wrong with them `receive` says.
-#[derive(Drop)]
+#[derive(Clone, Copy)]
 pub struct State {
     pub n: usize,
     pub bytes: usize,
 }
 
 // The next state, the number of the rules, and whether more is wanted.
-#[derive(Drop)]
+#[derive(Clone, Copy)]
 pub struct Received {
     pub state: State,
     pub number: u32,
