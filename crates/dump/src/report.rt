@@ -7,7 +7,7 @@ use frame::decode::{Decoded, Ending, Report};
 use text::write::{put, put_count, put_decimal, put_word};
 
 // The numbers that close a record's line; a refusal has its own in the place of the passes.
-#[derive(Drop)]
+#[derive(Clone, Copy)]
 struct Counts {
     passes: usize,
     bits: usize,

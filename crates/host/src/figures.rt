@@ -10,7 +10,7 @@ use block::put::put_numbers;
 use frame::decode::{Decoded, Ending, Report};
 use word::numbers::{DONE, ERASED, SPENT, STUCK};
 
-#[derive(Drop)]
+#[derive(Clone, Copy)]
 pub(crate) struct Figures {
     pub(crate) number: u32,
     passes: usize,

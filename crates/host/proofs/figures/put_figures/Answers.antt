@@ -1,0 +1,8 @@
+-- `figures::put_figures` meets its contract: the five values in the order of `block`.
+use borrow.Author.Rules.{rules}
+use Rattle.rules.specs.Block.{block}
+use Rattle.host.proofs.figures.put_figures.Goals as goal
+
+pub returns : goal.returns
+unfolding block
+returns c = c.put_numbers.ensures
