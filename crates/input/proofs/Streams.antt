@@ -11,7 +11,7 @@ use native.Mathlib.Omega.{arith}
 use lib.ListN.{length, take, drop, length-take}
 use lib.Dec.{leb, ltb}
 use lib.Seq.{take-take, take-add, drop-drop}
-use borrow.Author.Tests.{ltb-true, ltb-false, le-leb, leb-true}
+use borrow.Author.Tests.{ltb-false, le-leb, leb-true}
 use Rattle.rules.specs.Numbers.{pick}
 use Rattle.textrules.specs.Text.{Text}
 use Rattle.textrules.specs.Programs.{Program, output, output_cut}
@@ -19,15 +19,15 @@ use Rattle.lines.specs.declared.state.State.{State}
 use Rattle.lines.specs.declared.state.Event.{Event}
 use Rattle.lines.specs.declared.state.Event.TheVariants.{Nothing}
 use Rattle.lines.specs.declared.state.Taken.{Taken}
-use Rattle.lines.specs.Stream.{at_start, event_at_end, keeping, Kept, stopped}
+use Rattle.lines.specs.Stream.{event_at_end, keeping, Kept, stopped}
 use Rattle.lines.specs.Calls.{Takes, Says}
 use Rattle.lines.proofs.HandedLaws.{piece_within}
 use Rattle.lines.specs.Say.{Regular}
-use Rattle.lines.proofs.Pieces.{Call, Calls, input_of, text_of, Pieces, pieces}
+use Rattle.lines.proofs.Pieces.{Call, Calls, input_of, text_of, pieces}
 use Rattle.input.specs.declared.Input.{Input}
 use Rattle.input.specs.declared.Step.{Step}
 use Rattle.rules.proofs.Laws.OneOfLaws.{and_both}
-use Rattle.input.specs.Calls.{piece_bytes, at_begin, has_more, TakesLine, Stops, StepsAfterRead, StepsIf, Steps}
+use Rattle.input.specs.Calls.{piece_bytes, at_begin, has_more, TakesLine, Stops, StepsIf, Steps}
 
 -- ---- The statement
 

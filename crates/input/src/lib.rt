@@ -4,14 +4,14 @@
 ghost use Rattle.std.specs.Prelude.{◌≡◌, ◌≤◌, length};
 ghost use Rattle.input.specs.Calls.{at_begin, has_more, TakesLine, Stops, Steps};
 
-use libc::STDIN_FILENO;
 use lines::state::{Event, State, finish, start, take};
+use std::io::Read;
 
 // The bytes of a read.
 pub const PIECE: usize = 8192;
 
 // The state of the lines, and the part of the piece that was read last which is still to be taken: only a step moves it.
-#[derive(Drop)]
+#[derive(Clone, Copy)]
 pub struct Input {
     pub state: State,
     from: usize,
@@ -94,19 +94,27 @@ fn stop(state: State, header: &[u8], line: &[u8], ended: bool) -> Step
     }
 }
 
-// One line more; reads first where all that was read is taken.
-pub fn advance(input: Input, piece: &mut [u8; PIECE], header: &[u8], line: &mut [u8]) -> Step
+// One line more; reads first where all that was read is taken. No byte read says that the input has ended, and an error that the
+// read failed.
+pub fn advance<R: Read>(
+    input: Input,
+    reader: &mut R,
+    piece: &mut [u8; PIECE],
+    header: &[u8],
+    line: &mut [u8],
+) -> Step
     ensures { Steps header.now input piece.old line.old result piece.new line.new }
 {
     if has_more(input) {
         return take_line(input, piece, header, line);
     }
     let state = input.state;
-    let got = libc::read(STDIN_FILENO, piece);
-    if got <= 0 {
-        return stop(state, header, line, got == 0);
+    match reader.read(piece) {
+        Ok(0) => stop(state, header, line, true),
+        Ok(to) => {
+            let next = Input { state, from: 0, to };
+            take_line(next, piece, header, line)
+        }
+        Err(_) => stop(state, header, line, false),
     }
-    let to = io::count(got, piece);
-    let next = Input { state, from: 0, to };
-    take_line(next, piece, header, line)
 }
