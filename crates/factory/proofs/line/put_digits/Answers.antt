@@ -1,0 +1,8 @@
+-- `factory::line::put_digits` meets its contract.
+use Prim.Native.Nat.{◌-◌}
+use native.Mathlib.Omega.{arith}
+use borrow.Author.Rules.{rules}
+use Rattle.factory.proofs.line.put_digits.Goals as goal
+
+pub put_into-requires : goal.put_into-requires
+put_into-requires c = record { dump_room_in_bounds = search rules; digits_value = search rules; digits_in_bounds = (omega arith, search rules) }
