@@ -4,6 +4,7 @@ use frame::decode::decode;
 use frame::encode::encode;
 use frame::read::read;
 use frame::row::row;
+use std::io::{self, Write};
 use word::decode::decode_word;
 
 // What the output holds before each call.
@@ -19,122 +20,143 @@ fn fill(s: &mut [u8], count: usize, x: u8) {
     }
 }
 
-fn encode_line(n: usize, from: &[u8], to: &mut [u8]) {
-    text(b"encode");
-    number(n);
-    number(from.len());
-    number(to.len());
+fn encode_line<W: Write>(out: &mut W, n: usize, from: &[u8], to: &mut [u8]) -> io::Result<()> {
+    text(out, b"encode")?;
+    number(out, n)?;
+    number(out, from.len())?;
+    number(out, to.len())?;
     let r = encode(n, from, to);
-    text(b":");
-    number(r as usize);
-    touched(to, MARK);
+    text(out, b":")?;
+    number(out, r as usize)?;
+    touched(out, to, MARK)
 }
 
 // Data that is all zero.
-pub fn encode_call(n: usize, takes: usize, gives: usize) {
+pub fn encode_call<W: Write>(out: &mut W, n: usize, takes: usize, gives: usize) -> io::Result<()> {
     if MOST < takes {
-        return;
+        return Ok(());
     }
     if MOST < gives {
-        return;
+        return Ok(());
     }
     let from = [0u8; MOST];
     let mut to = [MARK; MOST];
-    encode_line(n, &from[0..takes], &mut to[0..gives]);
+    encode_line(out, n, &from[0..takes], &mut to[0..gives])
 }
 
-fn read_line(n: usize, from: &[u8], to: &mut [u8]) {
-    text(b"read");
-    number(n);
-    number(from.len());
-    number(to.len());
+fn read_line<W: Write>(out: &mut W, n: usize, from: &[u8], to: &mut [u8]) -> io::Result<()> {
+    text(out, b"read")?;
+    number(out, n)?;
+    number(out, from.len())?;
+    number(out, to.len())?;
     let r = read(n, from, to);
-    text(b":");
-    number(r as usize);
-    touched(to, MARK);
+    text(out, b":")?;
+    number(out, r as usize)?;
+    touched(out, to, MARK)
 }
 
 // A frame that is all zero.
-pub fn read_call(n: usize, takes: usize, gives: usize) {
+pub fn read_call<W: Write>(out: &mut W, n: usize, takes: usize, gives: usize) -> io::Result<()> {
     if MOST < takes {
-        return;
+        return Ok(());
     }
     if MOST < gives {
-        return;
+        return Ok(());
     }
     let from = [0u8; MOST];
     let mut to = [MARK; MOST];
-    read_line(n, &from[0..takes], &mut to[0..gives]);
+    read_line(out, n, &from[0..takes], &mut to[0..gives])
 }
 
-fn decode_line(n: usize, allowance: usize, ones: usize, from: &mut [u8], to: &mut [u8]) {
-    text(b"decode");
-    number(n);
-    number(allowance);
-    number(from.len());
-    number(to.len());
+fn decode_line<W: Write>(
+    out: &mut W,
+    n: usize,
+    allowance: usize,
+    ones: usize,
+    from: &mut [u8],
+    to: &mut [u8],
+) -> io::Result<()> {
+    text(out, b"decode")?;
+    number(out, n)?;
+    number(out, allowance)?;
+    number(out, from.len())?;
+    number(out, to.len())?;
     fill(from, ones, 255);
     let r = decode(n, allowance, from, to);
-    text(b":");
-    show_decoded(r);
-    touched(to, MARK);
+    text(out, b":")?;
+    show_decoded(out, r)?;
+    touched(out, to, MARK)
 }
 
 // A frame that is all zero but for its first `ones` bytes: at n = 18 six of them are two rows of ones.
-pub fn decode_call(n: usize, allowance: usize, ones: usize, takes: usize, gives: usize) {
+pub fn decode_call<W: Write>(
+    out: &mut W,
+    n: usize,
+    allowance: usize,
+    ones: usize,
+    takes: usize,
+    gives: usize,
+) -> io::Result<()> {
     if MOST < takes {
-        return;
+        return Ok(());
     }
     if MOST < gives {
-        return;
+        return Ok(());
     }
     let mut from = [0u8; MOST];
     let mut to = [MARK; MOST];
-    decode_line(n, allowance, ones, &mut from[0..takes], &mut to[0..gives]);
+    decode_line(
+        out,
+        n,
+        allowance,
+        ones,
+        &mut from[0..takes],
+        &mut to[0..gives],
+    )
 }
 
 // The row's length; it has no output.
-fn row_line(n: usize, from: &[u8], i: usize) {
-    text(b"row");
-    number(n);
-    number(from.len());
-    number(i);
+fn row_line<W: Write>(out: &mut W, n: usize, from: &[u8], i: usize) -> io::Result<()> {
+    text(out, b"row")?;
+    number(out, n)?;
+    number(out, from.len())?;
+    number(out, i)?;
     let r = row(n, from, i);
-    text(b":");
-    number(r.len());
-    text(b"\n");
+    text(out, b":")?;
+    number(out, r.len())?;
+    text(out, b"\n")
 }
 
 // A frame that is all zero.
-pub fn row_call(n: usize, takes: usize, i: usize) {
+pub fn row_call<W: Write>(out: &mut W, n: usize, takes: usize, i: usize) -> io::Result<()> {
     if MOST < takes {
-        return;
+        return Ok(());
     }
     let from = [0u8; MOST];
-    row_line(n, &from[0..takes], i);
+    row_line(out, n, &from[0..takes], i)
 }
 
-fn word_line(n: usize, from: &mut [u8], to: &mut [u8]) {
-    text(b"word");
-    number(n);
-    number(from.len());
-    number(to.len());
+fn word_line<W: Write>(out: &mut W, n: usize, from: &mut [u8], to: &mut [u8]) -> io::Result<()> {
+    text(out, b"word")?;
+    number(out, n)?;
+    number(out, from.len())?;
+    number(out, to.len())?;
     fill(from, 1, 192);
     let r = decode_word(n, from, to);
-    text(b":");
-    show_said(r);
-    touched(to, MARK);
+    text(out, b":")?;
+    show_said(out, r)?;
+    touched(out, to, MARK)
 }
 
 // A word that is all zero but for its first two bits.
-pub fn word_call(n: usize, takes: usize, gives: usize) {
+pub fn word_call<W: Write>(out: &mut W, n: usize, takes: usize, gives: usize) -> io::Result<()> {
     if MOST < takes {
-        return;
+        return Ok(());
     }
     if MOST < gives {
-        return;
+        return Ok(());
     }
     let mut from = [0u8; MOST];
     let mut to = [MARK; MOST];
-    word_line(n, &mut from[0..takes], &mut to[0..gives]);
+    word_line(out, n, &mut from[0..takes], &mut to[0..gives])
 }

@@ -1,75 +1,73 @@
 // The lines that the program prints.
 use frame::decode::{Decoded, Ending, Report};
-use libc::STDOUT_FILENO;
+use std::io::{self, Write};
 use word::decode::Said;
 use word::locate::Answer;
 
-pub fn text(s: &[u8]) {
-    io::write_all(STDOUT_FILENO, s);
+pub fn text<W: Write>(out: &mut W, s: &[u8]) -> io::Result<()> {
+    out.write_all(s)
 }
 
-pub fn number(x: usize) {
-    io::write_all(STDOUT_FILENO, b" ");
-    io::print_decimal(STDOUT_FILENO, x as u64);
+pub fn number<W: Write>(out: &mut W, x: usize) -> io::Result<()> {
+    write!(out, " {x}")
 }
 
-fn show_report(report: Report) {
+fn show_report<W: Write>(out: &mut W, report: Report) -> io::Result<()> {
     let ending = report.ending;
     match ending {
-        Ending::Clean => text(b" clean"),
-        Ending::Repaired => text(b" repaired"),
-        Ending::Stuck => text(b" stuck"),
-        Ending::Spent => text(b" spent"),
-        Ending::Erased => text(b" erased"),
+        Ending::Clean => text(out, b" clean")?,
+        Ending::Repaired => text(out, b" repaired")?,
+        Ending::Stuck => text(out, b" stuck")?,
+        Ending::Spent => text(out, b" spent")?,
+        Ending::Erased => text(out, b" erased")?,
     }
-    number(report.passes);
-    number(report.bits);
-    number(report.rows);
-    number(report.columns);
+    number(out, report.passes)?;
+    number(out, report.bits)?;
+    number(out, report.rows)?;
+    number(out, report.columns)
 }
 
-fn show_refused(k: u32) {
-    text(b" refused");
-    number(k as usize);
+fn show_refused<W: Write>(out: &mut W, k: u32) -> io::Result<()> {
+    text(out, b" refused")?;
+    number(out, k as usize)
 }
 
-pub fn show_decoded(decoded: Decoded) {
+pub fn show_decoded<W: Write>(out: &mut W, decoded: Decoded) -> io::Result<()> {
     match decoded {
-        Decoded::Refused(k) => show_refused(k),
-        Decoded::Ended(report) => show_report(report),
+        Decoded::Refused(k) => show_refused(out, k),
+        Decoded::Ended(report) => show_report(out, report),
     }
 }
 
-fn show_answer(answer: Answer) {
+fn show_answer<W: Write>(out: &mut W, answer: Answer) -> io::Result<()> {
     match answer {
-        Answer::Codeword => text(b" codeword"),
+        Answer::Codeword => text(out, b" codeword"),
         Answer::OnePlace(p) => {
-            text(b" one place");
-            number(p);
+            text(out, b" one place")?;
+            number(out, p)
         }
         Answer::TwoPlaces(p, q) => {
-            text(b" two places");
-            number(p);
-            number(q);
+            text(out, b" two places")?;
+            number(out, p)?;
+            number(out, q)
         }
-        Answer::Beyond => text(b" beyond"),
+        Answer::Beyond => text(out, b" beyond"),
     }
 }
 
-pub fn show_said(said: Said) {
+pub fn show_said<W: Write>(out: &mut W, said: Said) -> io::Result<()> {
     match said {
-        Said::Refused(k) => show_refused(k),
-        Said::Answered(answer) => show_answer(answer),
+        Said::Refused(k) => show_refused(out, k),
+        Said::Answered(answer) => show_answer(out, answer),
     }
 }
 
 // Whether the output still holds what was put there before the call.
-pub fn touched(s: &[u8], mark: u8) {
+pub fn touched<W: Write>(out: &mut W, s: &[u8], mark: u8) -> io::Result<()> {
     for i in 0..s.len() {
         if s[i] != mark {
-            io::write_all(STDOUT_FILENO, b", output written\n");
-            return;
+            return text(out, b", output written\n");
         }
     }
-    io::write_all(STDOUT_FILENO, b", output untouched\n");
+    text(out, b", output untouched\n")
 }

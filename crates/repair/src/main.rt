@@ -8,8 +8,8 @@ ghost use Rattle.lines.specs.Calls.{LeavesSome};
 use dump::say::say;
 use dump::sizes::{LONGEST_LINE, ROOM};
 use input::{PIECE, advance, begin};
-use libc::{STDERR_FILENO, STDOUT_FILENO};
 use lines::state::State;
+use std::io::{Read, Write};
 
 // The state of the lines at last; whether the input has ended, which it has not where reading failed; and whether all of the
 // report so far could be written.
@@ -21,7 +21,11 @@ struct End {
 }
 
 // Says of each line what it gives. A proved loop has to end: it counts down from a number of turns that no run uses up.
-fn write_report(line: &mut [u8; LONGEST_LINE]) -> End
+fn write_report<R: Read, W: Write>(
+    reader: &mut R,
+    writer: &mut W,
+    line: &mut [u8; LONGEST_LINE],
+) -> End
     ensures { LeavesSome header at_start line.old result.state line.new }
 {
     let mut piece = [0u8; PIECE];
@@ -29,11 +33,11 @@ fn write_report(line: &mut [u8; LONGEST_LINE]) -> End
     let mut current = begin();
     let mut turns = u64::MAX;
     while turns > 0 {
-        let next = advance(current, &mut piece, b"frames\t1", line);
+        let next = advance(current, reader, &mut piece, b"frames\t1", line);
         let event = next.event;
         current = next.input;
         let n = say(event, line, &mut out);
-        let written = io::write_all(STDOUT_FILENO, &out[0..n]);
+        let written = writer.write_all(&out[0..n]).is_ok();
         if !written || !next.more {
             let state = current.state;
             return End {
@@ -52,25 +56,22 @@ fn write_report(line: &mut [u8; LONGEST_LINE]) -> End
     }
 }
 
-// What failed: writing, or else reading.
-fn complain(written: bool) {
+// What failed: writing, or else reading. Where this can't be written either, nobody is told.
+fn complain<W: Write>(writer: &mut W, written: bool) -> bool {
     if written {
-        io::write_all(
-            STDERR_FILENO,
-            b"repair: reading failed: the report ends with the last whole line\n",
-        );
-        return;
+        return writer
+            .write_all(b"repair: reading failed: the report ends with the last whole line\n")
+            .is_ok();
     }
-    io::write_all(
-        STDERR_FILENO,
-        b"repair: writing failed: the report is not complete\n",
-    );
+    writer
+        .write_all(b"repair: writing failed: the report is not complete\n")
+        .is_ok()
 }
 
-fn main() {
+fn main(rt: HostRuntime) {
     let mut line = [0u8; LONGEST_LINE];
-    let end = write_report(&mut line);
+    let end = write_report(&mut rt.stdin(), &mut rt.stdout(), &mut line);
     if !end.at_end || !end.written {
-        complain(end.written);
+        complain(&mut rt.stderr(), end.written);
     }
 }
