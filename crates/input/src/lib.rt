@@ -1,4 +1,4 @@
-// Standard input, line by line, for every program over texts.
+// The input, line by line, for every program over texts: standard input, or any other reader.
 #![tactic(auto)]
 
 ghost use Rattle.std.specs.Prelude.{◌≡◌, ◌≤◌, length};
