@@ -2,10 +2,10 @@
 function trimmed(text) { sub(/^ +/, "", text); return text }
 function name_of(signature) { sub(/.*fn /, "", signature); sub(/[(<].*/, "", signature); return signature }
 
-# A part of a name, which may be an operator such as _≡_, is a word of the clause: the name could decide what the clause says.
+# A part of a name, which may be an operator such as ◌≡◌, is a word of the clause: the name could decide what the clause says.
 function decides(name, clause,   parts, i) {
     gsub(/[().;{}]/, " ", clause)
-    for (i = split(name, parts, "_"); i > 0; i--)
+    for (i = split(name, parts, "◌"); i > 0; i--)
         if (parts[i] != "" && index(" " clause " ", " " parts[i] " ")) return 1
     return 0
 }

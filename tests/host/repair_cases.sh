@@ -1,7 +1,7 @@
 # shellcheck shell=bash
 # repair_frame as a program: its exit status, its sentence, and what is in the output file. Sourced by run.
-files=${work:?}/repair
-mkdir -p "$files/folder"
+files=${room:?}/repair # not below the checkout: rt ci allows no link there
+mkdir -p "$files/folder" && cp "${work:?}/repair_frame" "$room"
 
 zeros() { head -c "$1" /dev/zero; }
 frame18() { # FILE BYTES: as printf has them, then zeros up to a frame of 18
@@ -47,7 +47,7 @@ repair() { # WHAT STATUS SENTENCE OUTPUT WORD...
     got=$?
     [ "$got" = "$status" ] || wrong+=" status $got, not $status;"
     [ "$said" = "$sentence" ] || wrong+=" '$said', not '$sentence';"
-    [ -n "$said" ] || [ -s "$work/repair.err" ] || wrong+=" no word of what was wrong;"
+    [ -n "$said" ] || [ -s "$room/repair.err" ] || wrong+=" no word of what was wrong;"
     if [ "$output" = - ]; then
         [ ! -e "$files/out" ] || wrong+=" a file out is there;"
     else
