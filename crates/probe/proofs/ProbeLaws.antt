@@ -3,16 +3,15 @@
 use mathlib.Core.Path.{◌≡◌, refl, ap, sym, ◌∙◌}
 use mathlib.Core.Logic.{◌≢◌}
 use mathlib.Core.Bool.{true, false}
-use mathlib.Core.List.{List, ◌++◌}
+use mathlib.Core.List.{List}
 use Prim.Native.Nat.{ℕ, ◌≤◌, ◌<◌}
 use lib.Dec.{eqb}
-use lib.ListN.{length, take, drop}
+use lib.ListN.{length}
 use borrow.Author.Tests.{eq-eqb, ne_eqb, le-leb, lt-leb}
 use Rattle.rules.specs.Codes.{small_code}
 use Rattle.rules.specs.Numbers.{pick, outside, word_said, word_output}
 use Rattle.rules.specs.Block.{in_bytes}
 use Rattle.laws.specs.Located.{checks_end, located}
-use Rattle.laws.proofs.CopyLaws.{copied_whole}
 use Rattle.word.specs.declared.locate.Answer.{Answer}
 use Rattle.word.specs.declared.decode.Said.{Said}
 use Rattle.word.specs.Said.{answer_of, said_of}

@@ -19,7 +19,7 @@ use Rattle.text.specs.Laid.{laid}
 use Rattle.text.proofs.LaidLaws.{laid-length}
 use Rattle.receiver.specs.declared.state.State.{State}
 use Rattle.receiver.specs.declared.state.Received.{Received}
-use Rattle.receiver.specs.Pieces.{refusal, taken, turned_away, receive}
+use Rattle.receiver.specs.Pieces.{refusal, turned_away, receive}
 use Rattle.receiver.proofs.RefusalLaws.{refusal_1, refusal_2, refusal_14, refusal_0, accepted, receive_taken, receive_refused}
 
 -- ---- The statement

@@ -1,14 +1,7 @@
 -- `repair::write_report` meets its contract.
-use mathlib.Core.Path.{ap}
-use Prim.Native.Nat.{◌-◌}
-use borrow.Author.Rules.{rules}
-use Rattle.text.proofs.LaidLaws.{lays_within}
-use Rattle.input.proofs.StepLaws.{step_leaves}
-use Rattle.input.specs.declared.Input.{Input}
-use Rattle.lines.proofs.HandedLaws.{some-none, some_then}
 use Rattle.lines.specs.Calls.{LeavesSome}
-use Rattle.lines.specs.Stream.{at_start, keeping}
-use Rattle.textrules.specs.Dump.{header, repair}
+use Rattle.lines.specs.Stream.{at_start}
+use Rattle.textrules.specs.Dump.{header}
 use Rattle.repair.proofs.write_report.Given as goal
 
 abbrev pub invariant-loop-turns : goal.invariant-loop-turns

@@ -1,12 +1,9 @@
 -- `write::write_dump` meets its contract.
 use mathlib.Core.Path.{ap}
-use Prim.Native.Nat.{◌-◌}
-use borrow.Author.Rules.{rules}
 use Rattle.text.proofs.LaidLaws.{lays_within}
 use Rattle.input.proofs.StepLaws.{step_leaves}
 use Rattle.input.specs.declared.Input.{Input}
 use Rattle.lines.proofs.HandedLaws.{some-none, some_then}
-use Rattle.lines.specs.Calls.{LeavesSome}
 use Rattle.lines.specs.Stream.{at_start, keeping}
 use Rattle.textrules.specs.Factory.{data_header, writer}
 use Rattle.write.proofs.write_dump.Goals as goal

@@ -1,6 +1,5 @@
 -- `dump::line::decode_digits` meets its contract.
 use native.Mathlib.Omega.{arith}
-use borrow.Author.Rules.{rules}
 use Rattle.dump.proofs.line.decode_digits.Goals as goal
 
 pub decode_into-requires : goal.decode_into-requires

@@ -1,5 +1,4 @@
 -- `dump::line::decode_into` meets its contract.
-use borrow.Author.Rules.{rules}
 use Rattle.text.proofs.ReadLaws.{hex_part, hex_part-length}
 use Rattle.dump.proofs.ReportTextLaws.{said_of}
 use Rattle.dump.proofs.line.decode_into.Goals as goal

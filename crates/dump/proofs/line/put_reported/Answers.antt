@@ -1,7 +1,6 @@
 -- `dump::line::put_reported` meets its contract.
 use mathlib.Core.Bool.{not}
 use mathlib.Core.Path.{ap}
-use borrow.Author.Rules.{rules}
 use Rattle.dump.proofs.LineLaws.{head_questioned, frame_questioned, record_reported}
 use Rattle.textrules.specs.Dump.{longest_line}
 use Rattle.text.proofs.LastFieldLaws.{digits_short, hex_known}

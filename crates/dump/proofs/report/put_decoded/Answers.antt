@@ -4,7 +4,6 @@ use Rattle.textrules.specs.Text.{ascii}
 use Rattle.frame.specs.declared.decode.Decoded.TheVariants.{Refused, Ended}
 use Rattle.dump.specs.ReportText.{word_and_counts}
 use Rattle.dump.proofs.ReportTextLaws.{told_as}
-use borrow.Author.Rules.{rules}
 use Rattle.dump.proofs.report.put_decoded.Goals as goal
 
 pub returns-in-Refused : goal.returns-in-Refused

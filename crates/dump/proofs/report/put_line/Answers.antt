@@ -1,7 +1,6 @@
 -- `dump::report::put_line` meets its contract.
 use native.Mathlib.Omega.{arith}
 use Rattle.text.proofs.LaidLaws.{lays_then, digits_few}
-use borrow.Author.Rules.{rules}
 use Rattle.dump.proofs.report.put_line.Goals as goal
 
 pub put_decimal-a-requires : goal.put_decimal-a-requires

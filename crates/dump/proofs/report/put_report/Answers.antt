@@ -3,7 +3,6 @@ use mathlib.Core.Path.{refl}
 use Rattle.textrules.specs.Text.{ascii}
 use Rattle.frame.specs.declared.decode.Ending.TheVariants.{Clean, Repaired, Stuck, Spent, Erased}
 use Rattle.dump.proofs.ReportTextLaws.{told_here}
-use borrow.Author.Rules.{rules}
 use Rattle.dump.proofs.report.put_report.Goals as goal
 
 pub returns-in-Clean : goal.returns-in-Clean

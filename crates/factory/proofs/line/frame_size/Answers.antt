@@ -1,7 +1,5 @@
 -- `factory::line::frame_size` meets its contract.
-use Prim.Native.Nat.{◌-◌}
 use native.Mathlib.Omega.{arith}
-use borrow.Author.Rules.{rules}
 use Rattle.factory.proofs.LineLaws.{n_most, size_outside, size_inside}
 use Rattle.factory.proofs.line.frame_size.Goals as goal
 

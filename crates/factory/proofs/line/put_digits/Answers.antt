@@ -1,5 +1,4 @@
 -- `factory::line::put_digits` meets its contract.
-use Prim.Native.Nat.{◌-◌}
 use native.Mathlib.Omega.{arith}
 use borrow.Author.Rules.{rules}
 use Rattle.factory.proofs.line.put_digits.Goals as goal

@@ -1,5 +1,4 @@
 -- `factory::line::put_encoded` meets its contract.
-use Prim.Native.Nat.{◌-◌}
 use borrow.Author.Rules.{rules}
 use Rattle.factory.proofs.LineLaws.{refused_written, frame_fits, frame_written}
 use Rattle.factory.proofs.line.put_encoded.Goals as goal

@@ -1,7 +1,5 @@
 -- `factory::line::put_into` meets its contract.
 use mathlib.Core.Path.{ap}
-use Prim.Native.Nat.{◌-◌}
-use borrow.Author.Rules.{rules}
 use Rattle.text.proofs.LaidLaws.{lays_as}
 use Rattle.textrules.specs.Factory.{given_text}
 use Rattle.text.proofs.ReadLaws.{hex_part}

@@ -1,5 +1,4 @@
 -- `factory::line::put_line` meets its contract.
-use Prim.Native.Nat.{◌-◌}
 use mathlib.Core.Bool.{not}
 use mathlib.Core.Path.{ap}
 use borrow.Author.Rules.{rules}

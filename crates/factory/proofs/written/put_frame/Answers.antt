@@ -1,7 +1,5 @@
 -- `factory::written::put_frame` meets its contract.
-use Prim.Native.Nat.{◌-◌}
 use native.Mathlib.Omega.{arith}
-use borrow.Author.Rules.{rules}
 use Rattle.factory.proofs.LineLaws.{nine_most, three_most, allowance_one}
 use Rattle.textrules.proofs.Laws.DigitFormLaws.{hex_length}
 use Rattle.text.proofs.LaidLaws.{lays_then}

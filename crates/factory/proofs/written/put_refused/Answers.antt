@@ -1,7 +1,5 @@
 -- `factory::written::put_refused` meets its contract.
-use Prim.Native.Nat.{◌-◌}
 use native.Mathlib.Omega.{arith}
-use borrow.Author.Rules.{rules}
 use Rattle.text.proofs.LaidLaws.{lays_then, digits_few}
 use Rattle.factory.proofs.written.put_refused.Goals as goal
 

@@ -4,7 +4,6 @@ use mathlib.Core.Path.{◌≡◌, sym, ◌∙◌}
 use mathlib.Core.Bool.{false}
 use Prim.Native.Nat.{◌≤◌}
 use native.Mathlib.Omega.{arith}
-use borrow.Author.Rules.{rules}
 use lib.ListN.{length}
 use Rattle.rules.specs.Codes.{length_limit, small_code}
 use Rattle.rules.specs.Bits.{square_bytes}
@@ -13,7 +12,7 @@ use Rattle.rules.proofs.Laws.NumberLaws.{Sized}
 use Rattle.rules.proofs.Laws.SmallCode.{sound_small}
 use Rattle.laws.proofs.RefusalLaws.{not_longer, sized}
 use Rattle.laws.proofs.CornerLaws.{cornered_square, ready}
-use Rattle.laws.proofs.DecodeLaws.{refused_1, refused_2, refused_3, refused_4, erased_10, Accepted, accept, copied_frame, as_long, copied_over}
+use Rattle.laws.proofs.DecodeLaws.{refused_1, refused_2, refused_3, refused_4, erased_10, Accepted, accept, copied_frame, as_long}
 use Rattle.frame.proofs.ReportLaws.{refusal_said, erased_said, failed, succeeded}
 use Rattle.frame.proofs.decode.decode.Goals as goal
 

@@ -1,30 +1,13 @@
 -- `decode::repair` meets its contract. The outer loop: the passes left to make give the whole outcome. The inner loop: the first `k`
 -- words of this pass are mended.
 use mathlib.Core.Path.{◌≡◌, refl, sym, ◌∙◌}
-use mathlib.Core.Logic.{⊎_elim}
-use Prim.Native.Nat.{◌-◌}
 use lib.ListN.{length}
 use borrow.Author.Rules.{rules}
 use Rattle.rules.specs.Codes.{small_code}
 use Rattle.rules.specs.Bits.{frame_of}
 use Rattle.rules.proofs.Laws.Shape.{frame_of-square}
 use Rattle.laws.specs.Turns.{Whole}
-use Rattle.laws.proofs.PassStepLaws.{
-  Passing,
-  passing_whole,
-  passing_none,
-  passing_more,
-  passing_all,
-  Repairing,
-  repairing_none,
-  repairing_more,
-  frame_not,
-  ended_clean,
-  Made,
-  ended_repaired,
-  ended_stuck,
-  ended_spent,
-}
+use Rattle.laws.proofs.PassStepLaws.{passing_whole, passing_none, passing_more, passing_all, repairing_none, repairing_more, frame_not, ended_clean, Made, ended_repaired, ended_stuck, ended_spent}
 use Rattle.frame.specs.declared.decode.Ending.TheVariants.{Clean}
 use Rattle.frame.specs.Said.{uncounted}
 use Rattle.frame.proofs.ReportLaws.{reported}
@@ -84,12 +67,12 @@ loop-rows-preserved c =
     let a = p.args in
     let made : Made small_code a.n a.allowance (frame_of a.n a.received.now) l.s l.passes p.loop-k.s p.loop-k.changes
     c.bad-rows-in-loop-rows.result c.bad-columns-in-loop-rows.result = let e = c in record {
-  before = e.loop-rows.invariant;
-  by_columns = _;
-  mended = passing_all small_code e.loop-k.invariant e.loop-k-test.false;
-  rows_bad = c.bad-rows-in-loop-rows.ensures.0;
-  columns_bad = c.bad-columns-in-loop-rows.ensures.0;
-} in
+      before = e.loop-rows.invariant;
+      by_columns = _;
+      mended = passing_all small_code e.loop-k.invariant e.loop-k-test.false;
+      rows_bad = c.bad-rows-in-loop-rows.ensures.0;
+      columns_bad = c.bad-columns-in-loop-rows.ensures.0;
+    } in
     let d = c in
     repairing_more small_code made refl d.if-rows-columns-eq0-2.false (sym d.is_stuck.ensures ∙ c.if-is_stuck.false) c.if-passes-allowance.false
 
@@ -113,21 +96,21 @@ returns c =
     let a = p.args in
     let made : Made small_code a.n a.allowance (frame_of a.n a.received.now) l.s l.passes p.loop-k.s p.loop-k.changes
     c.bad-rows-in-loop-rows.result c.bad-columns-in-loop-rows.result = let e = c in record {
-  before = e.loop-rows.invariant;
-  by_columns = _;
-  mended = passing_all small_code e.loop-k.invariant e.loop-k-test.false;
-  rows_bad = c.bad-rows-in-loop-rows.ensures.0;
-  columns_bad = c.bad-columns-in-loop-rows.ensures.0;
-} in
+      before = e.loop-rows.invariant;
+      by_columns = _;
+      mended = passing_all small_code e.loop-k.invariant e.loop-k-test.false;
+      rows_bad = c.bad-rows-in-loop-rows.ensures.0;
+      columns_bad = c.bad-columns-in-loop-rows.ensures.0;
+    } in
     let m = made in
     let bits = c.differences-bits.ensures in
     elim c.if-rows-columns-eq0-2.branch [
       | then-rows-columns-eq0-2 w ↦ reported w.ending-is (ended_repaired small_code m refl _ bits w.if-rows-columns-eq0-2.true) refl
       | else-rows-columns-eq0-2+then-is_stuck w ↦
-      reported w.ending-is
-      (ended_stuck small_code m refl _ bits w.if-rows-columns-eq0-2.false (sym w.is_stuck.ensures ∙ w.if-is_stuck.true)) refl
+          reported w.ending-is
+          (ended_stuck small_code m refl _ bits w.if-rows-columns-eq0-2.false (sym w.is_stuck.ensures ∙ w.if-is_stuck.true)) refl
       | else-rows-columns-eq0-2+else-is_stuck+then-passes-allowance w ↦
-      reported w.ending-is
-      (ended_spent small_code m refl _ bits w.if-rows-columns-eq0-2.false (sym w.is_stuck.ensures ∙ w.if-is_stuck.false)
-      w.if-passes-allowance.true) refl
+          reported w.ending-is
+          (ended_spent small_code m refl _ bits w.if-rows-columns-eq0-2.false (sym w.is_stuck.ensures ∙ w.if-is_stuck.false)
+          w.if-passes-allowance.true) refl
     ]

@@ -1,33 +1,9 @@
 -- `decode::repair` meets its contract. The outer loop: the passes left to make give the whole outcome. The inner loop: the first `k`
 -- words of this pass are mended.
-use mathlib.Core.Path.{◌≡◌, refl, sym, ◌∙◌}
-use mathlib.Core.Logic.{⊎_elim}
 use Prim.Native.Nat.{◌-◌}
-use lib.ListN.{length}
-use borrow.Author.Rules.{rules}
 use Rattle.rules.specs.Codes.{small_code}
 use Rattle.rules.specs.Bits.{frame_of}
-use Rattle.rules.proofs.Laws.Shape.{frame_of-square}
-use Rattle.laws.specs.Turns.{Whole}
-use Rattle.laws.proofs.PassStepLaws.{
-  Passing,
-  passing_whole,
-  passing_none,
-  passing_more,
-  passing_all,
-  Repairing,
-  repairing_none,
-  repairing_more,
-  frame_not,
-  ended_clean,
-  Made,
-  ended_repaired,
-  ended_stuck,
-  ended_spent,
-}
-use Rattle.frame.specs.declared.decode.Ending.TheVariants.{Clean}
-use Rattle.frame.specs.Said.{uncounted}
-use Rattle.frame.proofs.ReportLaws.{reported}
+use Rattle.laws.proofs.PassStepLaws.{Passing, Repairing}
 use Rattle.frame.proofs.decode.repair.Given as goal
 
 abbrev pub invariant-loop-k : goal.invariant-loop-k

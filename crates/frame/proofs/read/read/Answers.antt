@@ -2,7 +2,6 @@
 use mathlib.Core.Path.{◌≡◌, sym, ◌∙◌}
 use mathlib.Core.Bool.{false}
 use native.Mathlib.Omega.{arith}
-use borrow.Author.Rules.{rules}
 use Rattle.rules.specs.Codes.{small_code}
 use Rattle.rules.specs.Frames.{is_erased}
 use Rattle.rules.specs.Bits.{frame_of}

@@ -1,7 +1,6 @@
 -- `frame::row::is_refused` meets its contract: each way out is the law of its check.
 use mathlib.Core.Path.{◌≡◌, sym, ◌∙◌}
 use mathlib.Core.Bool.{false}
-use borrow.Author.Rules.{rules}
 use Rattle.rules.specs.Codes.{small_code}
 use Rattle.rules.specs.Numbers.{outside}
 use Rattle.rules.proofs.Laws.SmallCode.{sound_small}

@@ -1,13 +1,9 @@
 -- `words::bad` meets its contract: the loop has counted the words before `k` that are not codewords.
 use mathlib.Core.Path.{◌≡◌, ap, ◌∙◌}
-use mathlib.Core.Logic.{⊎_elim}
-use Prim.Native.Nat.{◌-◌, ◌≤◌}
 use native.Mathlib.Omega.{arith}
 use borrow.Author.Rules.{rules}
 use Rattle.rules.specs.Codes.{small_code}
-use Rattle.rules.specs.Bits.{frame_of}
 use Rattle.rules.proofs.Laws.SmallCode.{sound_small}
-use Rattle.laws.specs.Turns.{turned}
 use Rattle.laws.proofs.PassStepLaws.{bad_first, bad-none, bad_all, bad_more, bad_same, inside_here, checks_here}
 use Rattle.frame.proofs.words.bad.Goals as goal
 use Rattle.frame.proofs.words.bad.Goals.{then-checks-ne0, else-checks-ne0}

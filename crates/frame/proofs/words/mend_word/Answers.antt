@@ -1,5 +1,4 @@
 -- `words::mend_word` meets its contract: where the word lies is where `start` and `step` say, and its answer names its flips.
-use borrow.Author.Rules.{rules}
 use Rattle.rules.specs.Codes.{small_code}
 use Rattle.rules.proofs.Laws.SmallCode.{sound_small}
 use Rattle.laws.proofs.InPlaceLaws.{word_at-length}

@@ -2,7 +2,6 @@
 use native.Mathlib.Nat.{mul-le-mul}
 use native.Mathlib.Omega.{arith}
 use Prim.Native.Nat.{◌≤◌, ◌*◌}
-use borrow.Author.Rules.{rules}
 use Rattle.rules.specs.Codes.{length_limit}
 use Rattle.rules.specs.Bits.{row_bytes}
 use Rattle.laws.proofs.TurnLaws.{start_down, start_across}

@@ -1,5 +1,4 @@
 -- `words::step` meets its contract: a row goes bit by bit, a column row by row.
-use borrow.Author.Rules.{rules}
 use Rattle.laws.proofs.TurnLaws.{step_down, step_across}
 use Rattle.frame.proofs.words.step.Goals as goal
 

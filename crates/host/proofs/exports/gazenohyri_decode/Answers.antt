@@ -1,6 +1,5 @@
 -- `exports::gazenohyri_decode` meets its contract: a block of another length is refused, else it has the values of what was decoded.
 use native.Mathlib.Omega.{arith}
-use borrow.Author.Rules.{rules}
 use Rattle.host.proofs.FiguresLaws.{refused_block, put_block}
 use Rattle.host.proofs.exports.gazenohyri_decode.Goals as goal
 

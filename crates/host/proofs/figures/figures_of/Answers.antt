@@ -1,5 +1,4 @@
 -- `figures::figures_of` meets its contract: each case's values are those of `figures`.
-use borrow.Author.Rules.{rules}
 use Rattle.frame.specs.declared.decode.Decoded.TheVariants.{Refused, Ended}
 use Rattle.host.proofs.FiguresLaws.{answer_case}
 use Rattle.host.proofs.figures.figures_of.Goals as goal

@@ -1,5 +1,4 @@
 -- `figures::put_figures` meets its contract: the five values in the order of `block`.
-use borrow.Author.Rules.{rules}
 use Rattle.rules.specs.Block.{block}
 use Rattle.host.proofs.figures.put_figures.Goals as goal
 

@@ -1,5 +1,4 @@
 -- `figures::report_figures` meets its contract: each ending's values are those of `report_figures`.
-use borrow.Author.Rules.{rules}
 use Rattle.frame.specs.declared.decode.Ending.TheVariants.{Clean, Repaired, Stuck, Spent, Erased}
 use Rattle.host.proofs.FiguresLaws.{report_case}
 use Rattle.host.proofs.figures.report_figures.Goals as goal

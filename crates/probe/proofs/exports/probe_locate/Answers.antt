@@ -1,6 +1,5 @@
 -- `exports::probe_locate` meets its contract, by the length of the block.
 use native.Mathlib.Omega.{arith}
-use borrow.Author.Rules.{rules}
 use Rattle.probe.proofs.ProbeLaws.{checks_refused, checks_put}
 use Rattle.probe.proofs.exports.probe_locate.Goals as goal
 

@@ -1,6 +1,5 @@
 -- `exports::probe_power` meets its contract: the power that the mark has.
 use mathlib.Core.Path.{ap, ◌∙◌}
-use borrow.Author.Rules.{rules}
 use Rattle.algebra.specs.Marking.{power_part}
 use Rattle.algebra.specs.Field256.{small_marking}
 use Rattle.rules.proofs.Laws.FieldLaws.{marks_power}

@@ -1,6 +1,5 @@
 -- `exports::probe_row` meets its contract: the part is copied where the lent one is as long.
 use Rattle.probe.proofs.ProbeLaws.{row_copied, row_left}
-use borrow.Author.Rules.{rules}
 use Rattle.probe.proofs.exports.probe_row.Goals as goal
 
 pub returns-then-bytes-part : goal.returns-then-bytes-part

@@ -1,6 +1,5 @@
 -- `exports::probe_word` meets its contract, by the length of the block.
 use native.Mathlib.Omega.{arith}
-use borrow.Author.Rules.{rules}
 use Rattle.probe.proofs.ProbeLaws.{word_refused_lem, word_put}
 use Rattle.probe.proofs.exports.probe_word.Goals as goal
 

@@ -1,8 +1,6 @@
 -- `said::locate_said` meets its contract: what `locate` requires is tested.
 use mathlib.Core.Path.{sym, ◌∙◌}
 use native.Mathlib.Omega.{arith}
-use borrow.Author.Rules.{rules}
-use Rattle.rules.specs.Numbers.{outside}
 use Rattle.rules.specs.Codes.{small_code}
 use Rattle.laws.proofs.RefusalLaws.{inside}
 use Rattle.probe.proofs.ProbeLaws.{located_1, located_2, located_answer}

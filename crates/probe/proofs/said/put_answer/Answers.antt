@@ -1,5 +1,4 @@
 -- `said::put_answer` meets its contract, case by case.
-use borrow.Author.Rules.{rules}
 use Rattle.word.specs.declared.locate.Answer.TheVariants.{Codeword, OnePlace, TwoPlaces, Beyond}
 use Rattle.probe.specs.Calls.{answer_number, answer_places}
 use Rattle.probe.proofs.ProbeLaws.{put_case}

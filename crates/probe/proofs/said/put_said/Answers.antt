@@ -1,5 +1,4 @@
 -- `said::put_said` meets its contract, case by case.
-use borrow.Author.Rules.{rules}
 use Rattle.word.specs.declared.decode.Said.TheVariants.{Refused, Answered}
 use Rattle.probe.specs.Calls.{said_number, said_places}
 use Rattle.probe.proofs.ProbeLaws.{put_case}

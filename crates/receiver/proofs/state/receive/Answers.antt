@@ -2,7 +2,6 @@
 use mathlib.Core.Path.{◌≡◌, sym, ◌∙◌}
 use native.Mathlib.Omega.{arith}
 use lib.ListN.{length}
-use borrow.Author.Rules.{rules}
 use Rattle.rules.specs.Codes.{small_code}
 use Rattle.receiver.specs.Pieces.{refusal}
 use Rattle.receiver.proofs.RefusalLaws.{accepted, receive_refused, receive_laid}

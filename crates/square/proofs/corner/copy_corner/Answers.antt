@@ -1,11 +1,8 @@
 -- `corner::copy_corner` meets its contract. The loop's invariant: the first p bytes are those wanted.
-use Prim.Native.Nat.{◌-◌}
 use native.Mathlib.Omega.{arith}
 use borrow.Author.Rules.{rules}
-use Rattle.rules.specs.Bits.{square_bytes, frame_of, bytes_of}
 use Rattle.rules.proofs.Laws.PackLaws.{bytes_of-length}
-use Rattle.laws.specs.Turns.{cornered}
-use Rattle.laws.proofs.CopyLaws.{Agreeing, agreeing_none, agreeing_set, agreeing_all}
+use Rattle.laws.proofs.CopyLaws.{agreeing_none, agreeing_set, agreeing_all}
 use Rattle.laws.proofs.CornerLaws.{place_small, corner_at}
 use Rattle.square.proofs.corner.copy_corner.Goals as goal
 

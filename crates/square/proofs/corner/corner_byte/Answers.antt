@@ -1,7 +1,6 @@
 -- `corner::corner_byte` meets its contract: row i lies inside the square.
 use Prim.Native.Nat.{◌*◌, ◌+◌, ◌≤◌}
 use native.Mathlib.Omega.{arith}
-use borrow.Author.Rules.{rules}
 use Rattle.rules.specs.Bits.{square_bytes}
 use Rattle.laws.specs.InPlace.{most_bytes}
 use Rattle.laws.proofs.CornerLaws.{row_fits}

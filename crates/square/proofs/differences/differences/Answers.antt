@@ -1,9 +1,8 @@
 -- `differences::differences` meets its contract: the loop has counted in the first `i` rows.
 use mathlib.Core.Path.{◌≡◌, ap, ◌∙◌}
-use Prim.Native.Nat.{◌+◌, ◌*◌, ◌-◌, ◌≤◌}
+use Prim.Native.Nat.{◌+◌, ◌*◌, ◌≤◌}
 use native.Mathlib.Omega.{arith}
 use borrow.Author.Rules.{rules}
-use Rattle.rules.specs.Codes.{length_limit}
 use Rattle.rules.specs.Bits.{square_bytes}
 use Rattle.laws.specs.InPlace.{most_bytes}
 use Rattle.laws.proofs.CornerLaws.{row_fits}

@@ -1,10 +1,7 @@
 -- `differences::row_differences` meets its contract: the loop has counted in the first `b` bytes of the row.
-use mathlib.Core.Path.{◌≡◌, ap, ◌∙◌}
-use Prim.Native.Nat.{◌+◌, ◌*◌, ◌-◌, ◌≤◌}
-use native.Mathlib.Omega.{arith}
-use borrow.Author.Rules.{rules}
+use mathlib.Core.Path.{◌≡◌}
+use Prim.Native.Nat.{◌*◌, ◌-◌, ◌≤◌}
 use Rattle.laws.specs.InPlace.{differ_at}
-use Rattle.laws.proofs.CountLaws.{differ-none, differ_most, bytes_more}
 use Rattle.square.proofs.differences.row_differences.Given as goal
 
 abbrev pub invariant-loop-b : goal.invariant-loop-b

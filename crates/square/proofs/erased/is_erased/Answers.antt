@@ -1,11 +1,9 @@
 -- `erased::is_erased` meets its contract: the first `i` rows are ones.
 use mathlib.Core.Path.{◌≡◌, ap, ◌∙◌}
-use mathlib.Core.Bool.{true}
-use Prim.Native.Nat.{◌+◌, ◌*◌, ◌-◌, ◌≤◌}
+use Prim.Native.Nat.{◌+◌, ◌*◌, ◌≤◌}
 use native.Mathlib.Nat.{mul_assoc}
 use native.Mathlib.Omega.{arith}
 use borrow.Author.Rules.{rules}
-use borrow.Author.Tests.{not-true, not-false}
 use Rattle.rules.specs.Bits.{square_bytes}
 use Rattle.laws.specs.InPlace.{most_bytes}
 use Rattle.laws.proofs.CornerLaws.{row_fits}

@@ -1,7 +1,5 @@
 -- `erased::is_ones` meets its contract: the first `j` bits are ones.
 use mathlib.Core.Path.{◌≡◌, ap, ◌∙◌}
-use mathlib.Core.Bool.{true}
-use Prim.Native.Nat.{◌-◌, ◌≤◌}
 use native.Mathlib.Omega.{arith}
 use borrow.Author.Rules.{rules}
 use Rattle.laws.specs.InPlace.{ones_at}

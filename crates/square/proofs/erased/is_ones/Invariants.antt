@@ -1,11 +1,8 @@
 -- `erased::is_ones` meets its contract: the first `j` bits are ones.
-use mathlib.Core.Path.{◌≡◌, ap, ◌∙◌}
+use mathlib.Core.Path.{◌≡◌}
 use mathlib.Core.Bool.{true}
 use Prim.Native.Nat.{◌-◌, ◌≤◌}
-use native.Mathlib.Omega.{arith}
-use borrow.Author.Rules.{rules}
 use Rattle.laws.specs.InPlace.{ones_at}
-use Rattle.laws.proofs.ErasedLaws.{bits_none, bits_next, bits_end}
 use Rattle.square.proofs.erased.is_ones.Given as goal
 
 abbrev pub invariant-loop-j : goal.invariant-loop-j
