@@ -20,7 +20,7 @@ pub struct Input {
 
 // The input after a step, what has happened, whether there may be more, and whether the input has ended: neither, where a read
 // failed.
-#[derive(Drop)]
+#[derive(Clone, Copy)]
 pub struct Step {
     pub input: Input,
     pub event: Event,

@@ -16,7 +16,7 @@ pub struct State {
 
 // What has happened: nothing; the first line is whole, and is the header or not; line k is whole and so many characters long;
 // or line k is whole and too long.
-#[derive(Drop)]
+#[derive(Clone, Copy)]
 pub enum Event {
     Nothing,
     Header(bool),
@@ -25,7 +25,7 @@ pub enum Event {
 }
 
 // The next state, what has happened, and the bytes that were taken of the piece.
-#[derive(Drop)]
+#[derive(Clone, Copy)]
 pub struct Taken {
     pub state: State,
     pub event: Event,

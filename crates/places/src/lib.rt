@@ -14,7 +14,7 @@ use field::marks::{ORDER, cube_part, mark_at, power_part};
 const REMAINDER_BITS: usize = 16;
 
 // The exponents of two places. The higher exponent is the lower place.
-#[derive(Drop)]
+#[derive(Clone, Copy)]
 pub struct Two {
     pub high: usize,
     pub low: usize,

@@ -13,7 +13,7 @@ use std::io::{Read, Write};
 
 // The state of the lines at last; whether the input has ended, which it has not where reading failed; and whether all of the
 // report so far could be written.
-#[derive(Drop)]
+#[derive(Clone, Copy)]
 struct End {
     state: State,
     at_end: bool,

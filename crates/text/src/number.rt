@@ -7,7 +7,7 @@ ghost use Rattle.text.specs.Read.{decimal_of, digits_of};
 pub const MOST_DIGITS: usize = 9;
 
 // What a field in decimal says.
-#[derive(Drop)]
+#[derive(Clone, Copy)]
 pub(crate) enum Decimal {
     Value(usize),
     Bad,

@@ -6,7 +6,7 @@ ghost use Rattle.text.specs.Read.{field_of, opening_of, bad_opening, head_of, ba
 use crate::number::{Decimal, number};
 
 // A number closed by a tab; `after` is the place after the tab.
-#[derive(Drop)]
+#[derive(Clone, Copy)]
 struct Field {
     is_good: bool,
     value: usize,
@@ -14,7 +14,7 @@ struct Field {
 }
 
 // The two numbers that open every line; what follows them begins at the place `after`.
-#[derive(Drop)]
+#[derive(Clone, Copy)]
 pub struct Opening {
     pub is_good: bool,
     pub number: usize,
@@ -23,7 +23,7 @@ pub struct Opening {
 }
 
 // The three numbers that open a record; the frame's digits begin at the place `frame`.
-#[derive(Drop)]
+#[derive(Clone, Copy)]
 pub struct Head {
     pub is_good: bool,
     pub number: usize,

@@ -10,7 +10,7 @@ use crate::mend::mend;
 use crate::numbers::{BAD_INPUT_LENGTH, BAD_N, BAD_OUTPUT_LENGTH};
 use crate::sizes::{outside, row_bytes};
 
-#[derive(Drop)]
+#[derive(Clone, Copy)]
 pub enum Said {
     Refused(u32),
     Answered(Answer),

@@ -8,7 +8,7 @@ ghost use Rattle.laws.specs.Located.{checks_end, located};
 
 use places::{lone, mark_of, pair};
 
-#[derive(Drop)]
+#[derive(Clone, Copy)]
 pub enum Answer {
     Codeword,
     OnePlace(usize),

@@ -18,6 +18,7 @@ use Rattle.textrules.specs.Text.{Text, ascii, lines, every, digits, decimal}
 use Rattle.textrules.specs.Dump.{Line, bad_line, a_record, line_of, ending_text, reported_counts, record_text, line_text, repair, report, report_cut}
 use Rattle.textrules.proofs.Laws.Computing.{computing}
 use Rattle.textrules.proofs.Promises.Lines.{NoLF, joined_lines}
+use Rattle.textrules.proofs.Promises.RecordSays.{record_says}
 use Rattle.textrules.proofs.Promises.Outputs.{joined_texts, outputs, one_lf, decimal_no_lf, decimals_no_lf, quoted_no_lf}
 
 -- ---- The statement
@@ -63,17 +64,6 @@ ErasedExample =
 -- a record that breaks off, after an empty line
 abbrev pub CutExample : Type 0
 CutExample = report_cut (ascii "frames\t1\n" ++ ascii "\n" ++ ascii "0\t18\t2\t00") ≡ ascii "repair\t1\n" ++ ascii "?\t2\n"
-
--- a record's line, from what decoding said
-abbrev pub record_says : ℕ → Decoded → Text
-record_says number (refused r) = decimal number ++ ascii "\trefused\t" ++ decimal r ++ ascii "\t0\t0\t0\n"
-record_says number erased = decimal number ++ ascii "\terased\t0\t0\t0\t0\n"
-record_says number (ended clean p b r c) = decimal number ++ ascii "\tclean\t" ++ decimal p ++ ascii "\t" ++ decimal b ++ ascii "\t0\t0\n"
-record_says number (ended repaired p b r c) = decimal number ++ ascii "\trepaired\t" ++ decimal p ++ ascii "\t" ++ decimal b ++ ascii "\t0\t0\n"
-record_says number (ended stuck p b r c) =
-    decimal number ++ ascii "\tstuck\t" ++ decimal p ++ ascii "\t" ++ decimal b ++ ascii "\t" ++ decimal r ++ ascii "\t" ++ decimal c ++ ascii "\n"
-record_says number (ended spent p b r c) =
-    decimal number ++ ascii "\tspent\t" ++ decimal p ++ ascii "\t" ++ decimal b ++ ascii "\t" ++ decimal r ++ ascii "\t" ++ decimal c ++ ascii "\n"
 
 -- number 3 does not come: the buffer lent is as long as the frame
 abbrev pub RefusedBy : Decoded → Type 0
