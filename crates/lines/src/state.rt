@@ -5,6 +5,9 @@ ghost use Rattle.lines.specs.Calls.{Takes};
 
 use text::compare::same;
 
+// The greatest number of a line: the lines after it keep it.
+const MOST_LINES: usize = usize::MAX;
+
 // The number of the line being read, its characters so far (one more than the most says too long), and whether the header was
 // bad: then nothing more happens.
 #[derive(Clone, Copy)]
@@ -45,7 +48,7 @@ pub fn start() -> State
 fn following_number(number: usize) -> usize
     ensures { result ≡ following number }
 {
-    if number < usize::MAX {
+    if number < MOST_LINES {
         return number + 1;
     }
     number

@@ -14,6 +14,9 @@ returns-then-digits-gt-MOST_DIGITS c = number_long c.args.s.now c.if-digits-gt-M
 pub returns-then-s-eq48 : goal.returns-then-s-eq48
 returns-then-s-eq48 c = number-zero c.args.s.now c.if-digits-gt1.true c.if-s-eq48.true
 
+pub digits_value-requires : goal.digits_value-requires
+digits_value-requires c = c.if-digits-gt-MOST_DIGITS.false
+
 pub returns : goal.returns
 returns c =
     c.digits_value.ensures
