@@ -55,8 +55,8 @@ NR == FNR { next }
 
 FNR == 1 { text = kind = "" }
 /^ghost use / { kind = "use" }
-/^pub (extern "C" )?fn / { kind = "fn" }
-kind == "fn" && /^\{$/ { header(text); text = kind = "" }
+/^(    )?pub (extern "C" )?fn / { kind = "fn" }
+kind == "fn" && /^(    )?\{$/ { header(text); text = kind = "" }
 kind != "" { text = text (text == "" ? "" : " ") trimmed($0) }
 kind == "use" && /;$/ { ghost_use(text); text = kind = "" }
 

@@ -1,10 +1,13 @@
 // Lines of the report.
-ghost use Rattle.std.specs.Prelude.{◌≡◌, ◌+◌, ◌≤◌, length};
-ghost use Rattle.text.specs.Laid.{Lays};
-ghost use Rattle.dump.specs.ReportText.{line_room, counts_room, most_letters, counts_text, word_and_counts, mended_counts, bad_counts, refused_counts, no_counts, report_text, decoded_text};
+ghost use Rattle.std.specs.Prelude.{◌≡◌, [], ◌++◌, ◌+◌, ◌≤◌, Ok, Err, length};
+ghost use Rattle.textrules.specs.Dump.{record_text};
+ghost use Rattle.frame.specs.Said.{said};
+ghost use Rattle.dump.specs.ReportText.{line_room, counts_room, most_letters, counts_text, word_and_counts};
 
-use frame::decode::{Decoded, Ending, Report};
-use text::write::{put, put_count, put_decimal, put_word};
+use crate::sizes::ROOM;
+use frame::decode::{Ending, Report};
+use text::page::Page;
+use word::refusal::Refusal;
 
 // The numbers that close a record's line; a refusal has its own in the place of the passes.
 #[derive(Clone, Copy)]
@@ -15,93 +18,79 @@ struct Counts {
     columns: usize,
 }
 
-fn put_counts(out: &mut [u8], at: usize, counts: Counts) -> usize
-    requires { at + counts_room ≤ length out.old }
-    ensures { Lays out.old at (counts_text counts) result out.new }
+const NO_COUNTS: Counts = Counts {
+    passes: 0,
+    bits: 0,
+    rows: 0,
+    columns: 0,
+};
+
+fn put_counts(page: &mut Page<ROOM>, counts: Counts)
+    requires { length page.old + counts_room ≤ line_room }
+    ensures { page.new ≡ page.old ++ counts_text counts }
 {
-    let a = put_decimal(out, at, counts.passes);
-    let b = put_count(out, a, counts.bits);
-    let c = put_count(out, b, counts.rows);
-    let d = put_count(out, c, counts.columns);
-    put(out, d, b"\n")
+    page.put_decimal(counts.passes);
+    page.put_count(counts.bits);
+    page.put_count(counts.rows);
+    page.put_count(counts.columns);
+    page.put(b"\n");
 }
 
-fn put_line(out: &mut [u8], at: usize, number: usize, word: &[u8], counts: Counts) -> usize
-    requires line_room_in_bounds { at + line_room ≤ length out.old }
+fn put_line(page: &mut Page<ROOM>, number: usize, word: &[u8], counts: Counts)
+    requires empty { page.old ≡ [] }
     requires word_len_bound { length word.now ≤ most_letters }
-    ensures { Lays out.old at (word_and_counts number word.now counts) result out.new }
+    ensures { page.new ≡ word_and_counts number word.now counts }
 {
-    let a = put_decimal(out, at, number);
-    let b = put_word(out, a, word);
-    let c = put(out, b, b"\t");
-    put_counts(out, c, counts)
+    page.put_decimal(number);
+    page.put_word(word);
+    page.put(b"\t");
+    put_counts(page, counts);
 }
 
 // Rows and columns stand for stuck and spent alone.
-fn mended_counts(report: Report) -> Counts
-    ensures { result ≡ mended_counts report }
+fn put_report(page: &mut Page<ROOM>, number: usize, report: Report)
+    requires { page.old ≡ [] }
+    ensures { page.new ≡ record_text number (said (Ok report)) }
 {
-    Counts {
+    let mended = Counts {
         passes: report.passes,
         bits: report.bits,
-        rows: 0,
-        columns: 0,
-    }
-}
-
-fn bad_counts(report: Report) -> Counts
-    ensures { result ≡ bad_counts report }
-{
-    Counts {
-        passes: report.passes,
-        bits: report.bits,
+        ..NO_COUNTS
+    };
+    let bad = Counts {
         rows: report.rows,
         columns: report.columns,
+        ..mended
+    };
+    match report.ending {
+        Ending::Clean => put_line(page, number, b"clean", mended),
+        Ending::Repaired => put_line(page, number, b"repaired", mended),
+        Ending::Stuck => put_line(page, number, b"stuck", bad),
+        Ending::Spent => put_line(page, number, b"spent", bad),
     }
 }
 
-fn refused_counts(number: u32) -> Counts
-    ensures { result ≡ refused_counts number }
+fn put_refused(page: &mut Page<ROOM>, number: usize, refusal: Refusal)
+    requires { page.old ≡ [] }
+    ensures { page.new ≡ record_text number (said (Err refusal)) }
 {
-    Counts {
-        passes: number as usize,
-        bits: 0,
-        rows: 0,
-        columns: 0,
+    if refusal == Refusal::Erased {
+        put_line(page, number, b"erased", NO_COUNTS);
+        return;
     }
+    let counts = Counts {
+        passes: refusal.number() as usize,
+        ..NO_COUNTS
+    };
+    put_line(page, number, b"refused", counts);
 }
 
-fn no_counts() -> Counts
-    ensures { result ≡ no_counts }
-{
-    Counts {
-        passes: 0,
-        bits: 0,
-        rows: 0,
-        columns: 0,
-    }
-}
-
-fn put_report(out: &mut [u8], at: usize, number: usize, report: Report) -> usize
-    requires { at + line_room ≤ length out.old }
-    ensures { Lays out.old at (report_text number report) result out.new }
-{
-    let ending = report.ending;
-    match ending {
-        Ending::Clean => put_line(out, at, number, b"clean", mended_counts(report)),
-        Ending::Repaired => put_line(out, at, number, b"repaired", mended_counts(report)),
-        Ending::Stuck => put_line(out, at, number, b"stuck", bad_counts(report)),
-        Ending::Spent => put_line(out, at, number, b"spent", bad_counts(report)),
-        Ending::Erased => put_line(out, at, number, b"erased", no_counts()),
-    }
-}
-
-pub(crate) fn put_decoded(out: &mut [u8], at: usize, number: usize, decoded: Decoded) -> usize
-    requires { at + line_room ≤ length out.old }
-    ensures { Lays out.old at (decoded_text number decoded) result out.new }
+pub(crate) fn put_decoded(page: &mut Page<ROOM>, number: usize, decoded: Result<Report, Refusal>)
+    requires { page.old ≡ [] }
+    ensures { page.new ≡ record_text number (said decoded) }
 {
     match decoded {
-        Decoded::Refused(k) => put_line(out, at, number, b"refused", refused_counts(k)),
-        Decoded::Ended(report) => put_report(out, at, number, report),
+        Ok(report) => put_report(page, number, report),
+        Err(refusal) => put_refused(page, number, refusal),
     }
 }

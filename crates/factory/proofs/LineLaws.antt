@@ -2,67 +2,28 @@
 -- Assumes nothing.
 use mathlib.Core.Path.{◌≡◌, refl, sym, ap, subst, ◌∙◌}
 use mathlib.Core.Logic.{◌≢◌}
-use mathlib.Core.Bool.{Bool, true, false, not, ◌&&◌}
+use mathlib.Core.Bool.{Bool, true, false, ◌&&◌}
 use mathlib.Core.List.{List}
 use Prim.Native.Nat.{ℕ, ◌≤◌}
 use native.Mathlib.Omega.{arith}
 use lib.Dec.{leb}
-use lib.ListN.{length, drop}
-use borrow.Author.Tests.{eq-eqb, ne_eqb, leb-true, not-true, not-false}
+use lib.ListN.{length}
+use borrow.Author.Tests.{eq-eqb, ne_eqb, leb-true, not-false}
 use Rattle.rules.specs.Codes.{small_code}
 use Rattle.rules.specs.Numbers.{pick, outside, frame_bytes, encode_number, encode_output}
 use Rattle.rules.proofs.Laws.OneOfLaws.{and_both}
-use Rattle.textrules.specs.Text.{Text, decimal, is_hex, hex_bytes}
-use Rattle.textrules.specs.Programs.{questioned}
+use Rattle.textrules.specs.Text.{Text, decimal}
 use Rattle.textrules.specs.Dump.{greatest_frame}
-use Rattle.textrules.specs.Factory.{longest_data, DataLine, some_data, data_of, blank_frame, frame_line, refused_line, given_text, data_text}
-use Rattle.textrules.proofs.Laws.TextLaws.{decimal_short, decimal_small}
+use Rattle.textrules.specs.Factory.{some_data, data_of, blank_frame, frame_line, refused_line, given_text}
+use Rattle.textrules.proofs.Laws.TextLaws.{decimal_short}
 use Rattle.textrules.proofs.Promises.DataRecords.{NumberShort, short_number}
 use Rattle.textrules.proofs.Promises.Written.{any_number, any_output, outside_number, trip, accepted_most, frame_bytes_most}
-use Rattle.text.specs.declared.record.Opening.{Opening}
-use Rattle.text.specs.Laid.{Lays}
-use Rattle.text.specs.Read.{opening_of}
-use Rattle.text.proofs.LastFieldLaws.{digits_at, digits_rest}
-use Rattle.text.proofs.DataLaws.{data_bad_opening, data_bad_digits, data_record}
 use Rattle.factory.specs.Room.{NineDigits, FitsLine, buffer_for}
 
--- ---- a line by its parts
+-- ---- the number on a line of data
 
-module _ (s : Text) (o : Opening) (e : o ≡ opening_of s) where
-  pub opening_questioned :
-      (k : ℕ) (out : List ℕ) (r : ℕ) (exit : List ℕ) → not o.is_good ≡ true → Lays out 0 (questioned k) r exit
-      → Lays out 0 (data_text k (data_of s)) r exit
-  opening_questioned k out r exit b =
-      subst (λ (l : DataLine). Lays out 0 (data_text k l) r exit)
-      (sym (data_bad_opening s (ap (λ (x : Opening). x.is_good) (sym e) ∙ not-true _ b)))
-
-  module _ (good : not o.is_good ≡ false) (x : Bool) (q : x ≡ is_hex (digits_at s o.after)) where
-    good_opening_lem : (opening_of s).is_good ≡ true
-    good_opening_lem = ap (λ (y : Opening). y.is_good) (sym e) ∙ not-false _ good
-
-    hex_rest : is_hex (drop (opening_of s).after s) ≡ x
-    hex_rest = ap (λ (y : Opening). is_hex (drop y.after s)) (sym e) ∙ sym (ap is_hex (digits_rest s o.after)) ∙ sym q
-
-    pub digits_questioned :
-        (k : ℕ) (out : List ℕ) (r : ℕ) (exit : List ℕ) → not x ≡ true → Lays out 0 (questioned k) r exit
-        → Lays out 0 (data_text k (data_of s)) r exit
-    digits_questioned k out r exit b =
-        subst (λ (l : DataLine). Lays out 0 (data_text k l) r exit) (sym (data_bad_digits s good_opening_lem (hex_rest ∙ not-true _ b)))
-
-    module _ (short : length s ≤ longest_data) (b : not x ≡ false) where
-      says : data_of s ≡ some_data o.number o.n (hex_bytes (digits_at s o.after))
-      says =
-          data_record s short good_opening_lem (hex_rest ∙ not-false _ b)
-          ∙ ap (λ (y : Opening). some_data y.number y.n (hex_bytes (drop y.after s))) (sym e)
-          ∙ ap (λ (d : Text). some_data o.number o.n (hex_bytes d)) (sym (digits_rest s o.after))
-
-      pub number_short : NineDigits o.number
-      number_short = subst NumberShort says (short_number s)
-
-      pub record_written :
-          (k : ℕ) (out : List ℕ) (r : ℕ) (exit : List ℕ)
-          → Lays out 0 (given_text o.number o.n (hex_bytes (digits_at s o.after))) r exit → Lays out 0 (data_text k (data_of s)) r exit
-      record_written k out r exit = subst (λ (l : DataLine). Lays out 0 (data_text k l) r exit) (sym says)
+pub number_short : (s : Text) {number n : ℕ} {bytes : List ℕ} → data_of s ≡ some_data number n bytes → NineDigits number
+number_short s e = subst NumberShort e (short_number s)
 
 -- ---- sizes
 
@@ -90,9 +51,6 @@ nine_most x h = decimal_short x 9 h (omega arith)
 pub three_most : (n : ℕ) → n ≤ 256 → length (decimal n) ≤ 3
 three_most n h = decimal_short n 3 (omega (arith, h)) (omega arith)
 
-pub allowance_one : length (decimal 8) ≡ 1
-allowance_one = ap length (decimal_small 8 (omega arith))
-
 -- ---- a record, whatever the lent buffer had
 
 module _ (n : ℕ) (message out : List ℕ) (lent : length out ≡ buffer_for n) where
@@ -117,15 +75,14 @@ module _ (n : ℕ) (message out : List ℕ) (lent : length out ≡ buffer_for n)
       go true e = absurd (omega (arith, z, (outside_number n message out e).1))
       go false e = any_output n message out (lent_frame e) z
 
-  module _ (number : ℕ) (buffer : List ℕ) (r : ℕ) (exit : List ℕ) (x : ℕ) (is : x ≡ encode_number small_code n message out) where
-    pub refused_written : x ≢ 0 → Lays buffer 0 (refused_line number x) r exit → Lays buffer 0 (given_text number n message) r exit
+  module _ (number x : ℕ) (is : x ≡ encode_number small_code n message out) where
+    pub refused_written : x ≢ 0 → refused_line number x ≡ given_text number n message
     refused_written d =
         let z : ℕ = encode_number small_code n message (blank_frame n) in
         let e : x ≡ z = is ∙ alike in
         let f : List ℕ = encode_output small_code n message (blank_frame n) in
-        subst (λ (t : Text). Lays buffer 0 t r exit)
-        (ap (refused_line number) e
-        ∙ sym (ap (λ (b : Bool). pick b (frame_line number n f) (refused_line number z)) (ne_eqb z 0 (λ q. d (e ∙ q)))))
+        ap (refused_line number) e
+        ∙ sym (ap (λ (b : Bool). pick b (frame_line number n f) (refused_line number z)) (ne_eqb z 0 (λ q. d (e ∙ q))))
 
     -- what its line has room for
     pub frame_fits : NineDigits number → x ≡ 0 → (frame : List ℕ) → frame ≡ encode_output small_code n message out → FitsLine number n frame
@@ -135,12 +92,10 @@ module _ (n : ℕ) (message out : List ℕ) (lent : length out ≡ buffer_for n)
         (h, most, omega (arith, ap length fe ∙ (trip n message out z).received.0, frame_bytes_most n most))
 
     pub frame_written :
-        x ≡ 0 → (frame : List ℕ) → frame ≡ encode_output small_code n message out → Lays buffer 0 (frame_line number n frame) r exit
-        → Lays buffer 0 (given_text number n message) r exit
+        x ≡ 0 → (frame : List ℕ) → frame ≡ encode_output small_code n message out → frame_line number n frame ≡ given_text number n message
     frame_written q frame fe =
         let z : ℕ = encode_number small_code n message (blank_frame n) in
         let e : z ≡ 0 = sym (is ∙ alike) ∙ q in
         let f : List ℕ = encode_output small_code n message (blank_frame n) in
-        subst (λ (t : Text). Lays buffer 0 t r exit)
-        (ap (frame_line number n) (fe ∙ frame_alike e)
-        ∙ sym (ap (λ (b : Bool). pick b (frame_line number n f) (refused_line number z)) (eq-eqb z 0 e)))
+        ap (frame_line number n) (fe ∙ frame_alike e)
+        ∙ sym (ap (λ (b : Bool). pick b (frame_line number n f) (refused_line number z)) (eq-eqb z 0 e))

@@ -1,13 +1,8 @@
 -- RULES 10: what a line of the dump has room for.
-use Rattle.std.specs.Prelude.{List, ℕ, ◌+◌, ◌*◌, ◌^◌, ◌≤◌, ◌<◌, length}
+use Rattle.std.specs.Prelude.{List, ℕ, ◌^◌, ◌≤◌, ◌<◌, length}
 use Rattle.rules.specs.Codes.{small_code}
 use Rattle.rules.specs.Numbers.{pick, outside, frame_bytes}
-use Rattle.textrules.specs.Text.{most_digits}
 use Rattle.textrules.specs.Dump.{greatest_frame}
-
--- the room for a line of the dump: a number, n with three digits, the allowance with one, each with a tab, the greatest frame and the LF
-abbrev pub dump_room : ℕ
-dump_room = most_digits + 1 + 3 + 1 + 1 + 1 + 2 * greatest_frame + 1
 
 -- a number as a line has it
 abbrev pub NineDigits : ℕ → Type 0

@@ -1,29 +1,33 @@
 // The dump, in step with the lines of the factory's data.
-ghost use Rattle.std.specs.Prelude.{◌≡◌, ◌≤◌, length};
-ghost use Rattle.textrules.specs.Factory.{longest_data, writer};
-ghost use Rattle.lines.specs.Calls.{Says};
-ghost use Rattle.factory.specs.Room.{dump_room};
+ghost use Rattle.std.specs.Prelude.{refl};
+ghost use Rattle.std.proofs.Common.{rules};
+ghost use Rattle.textrules.specs.Factory.{writer};
 
 use crate::line::put_line;
 use crate::sizes::{LONGEST_LINE, ROOM};
-use lines::say::{put_header, put_questioned};
-use lines::state::{Event, part};
+use lines::program::Program;
+use lines::state::part;
+use text::page::Page;
 
-fn put_event(event: Event, line: &[u8], out: &mut [u8]) -> usize
-    requires { (length line.now ≡ longest_data) × (dump_room ≤ length out.old) }
-    ensures { Says writer event line.now out.old result out.new }
-{
-    match event {
-        Event::Nothing => 0,
-        Event::Header(good) => put_header(out, 0, good, b"frames\t1\n"),
-        Event::Line(number, long) => put_line(out, number, part(line, long)),
-        Event::Long(number) => put_questioned(out, 0, number),
+// The program that writes a dump.
+pub struct Writer;
+
+impl Program<LONGEST_LINE, ROOM> for Writer {
+    ghost program = { writer };
+
+    ghost longest = { refl };
+
+    ghost room = { Prim.search rules };
+
+    fn header() -> &'static [u8] {
+        b"data\t1"
     }
-}
 
-// What the dump says of what has happened; the text stands at the start of `out`.
-pub fn say(event: Event, line: &[u8; LONGEST_LINE], out: &mut [u8; ROOM]) -> usize
-    ensures { Says writer event line.now out.old result out.new }
-{
-    put_event(event, line, out)
+    fn opening() -> &'static [u8] {
+        b"frames\t1\n"
+    }
+
+    fn put_line(page: &mut Page<ROOM>, number: usize, line: &[u8; LONGEST_LINE], long: usize) {
+        put_line(page, number, part(line, long));
+    }
 }

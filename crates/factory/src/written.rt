@@ -1,34 +1,36 @@
 // Lines of the dump.
-ghost use Rattle.std.specs.Prelude.{◌≤◌, length};
+ghost use Rattle.std.specs.Prelude.{◌≡◌, []};
 ghost use Rattle.textrules.specs.Factory.{frame_line, refused_line};
-ghost use Rattle.text.specs.Laid.{Lays};
-ghost use Rattle.factory.specs.Room.{dump_room, FitsLine};
+ghost use Rattle.word.specs.Refused as refused;
+ghost use Rattle.factory.specs.Room.{FitsLine};
 
-use text::hex::put_hex;
-use text::write::{put, put_count, put_decimal};
+use crate::sizes::ROOM;
+use text::page::Page;
+use word::refusal::Refusal;
 
 // The allowance on every line.
 const ALLOWANCE: usize = 8;
 
-pub(crate) fn put_frame(out: &mut [u8], number: usize, n: usize, frame: &[u8]) -> usize
-    requires dump_room_in_bounds { dump_room ≤ length out.old }
+pub(crate) fn put_frame(page: &mut Page<ROOM>, number: usize, n: usize, frame: &[u8])
+    requires empty { page.old ≡ [] }
     requires fits_line { FitsLine number n frame.now }
-    ensures { Lays out.old 0 (frame_line number n frame.now) result out.new }
+    ensures { page.new ≡ frame_line number n frame.now }
 {
-    let a = put_decimal(out, 0, number);
-    let b = put_count(out, a, n);
-    let c = put_count(out, b, ALLOWANCE);
-    let d = put(out, c, b"\t");
-    let e = put_hex(out, d, frame);
-    put(out, e, b"\n")
+    page.put_decimal(number);
+    page.put_count(n);
+    page.put_count(ALLOWANCE);
+    page.put(b"\t");
+    page.put_hex(frame);
+    page.put(b"\n");
 }
 
-pub(crate) fn put_refused(out: &mut [u8], number: usize, refusal: u32) -> usize
-    requires { dump_room ≤ length out.old }
-    ensures { Lays out.old 0 (refused_line number refusal) result out.new }
+pub(crate) fn put_refused(page: &mut Page<ROOM>, number: usize, refusal: Refusal)
+    requires { page.old ≡ [] }
+    ensures { page.new ≡ refused_line number (refused.number refusal) }
 {
-    let a = put(out, 0, b"!");
-    let b = put_count(out, a, number);
-    let c = put_count(out, b, refusal as usize);
-    put(out, c, b"\n")
+    let given = refusal.number() as usize;
+    page.put(b"!");
+    page.put_count(number);
+    page.put_count(given);
+    page.put(b"\n");
 }

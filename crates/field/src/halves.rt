@@ -3,10 +3,8 @@ ghost use Rattle.std.specs.Prelude.{◌≡◌, ◌≤◌, ◌<◌};
 ghost use Rattle.algebra.specs.Marking.{order, half_at};
 ghost use Rattle.algebra.specs.Field256.{small_marking};
 
-use crate::wide;
-
 // Where a^i + a^j = 1, the lower of i and j at the logarithm of a^3i + a^3j, at 255 for 0; else 0.
-const HALVES: [u8; 256] = [
+static HALVES: [u8; 256] = [
     0, 114, 77, 234, 154, 0, 213, 13, 53, 0, 0, 0, 171, 148, 26, 0, 39, 102, 0, 96, 0, 0, 0, 210,
     87, 11, 41, 4, 52, 0, 0, 91, 78, 0, 187, 97, 0, 185, 192, 0, 0, 205, 0, 0, 0, 10, 165, 0, 79,
     6, 22, 14, 59, 0, 8, 0, 27, 0, 0, 149, 0, 0, 163, 0, 156, 0, 0, 37, 119, 0, 125, 0, 0, 110,
@@ -19,15 +17,10 @@ const HALVES: [u8; 256] = [
     0, 0, 86, 38, 123, 9, 0, 29, 0, 0, 0, 0, 19, 60, 142, 0, 0, 30, 0, 15, 135, 85,
 ];
 
-pub fn table() -> [u8; 256]
-    ensures { result ≡ small_marking.halves }
+#[tactic(auto, unfolding(algebra::specs::Field256::halves))]
+pub fn half(slot: usize) -> usize
+    requires { slot ≤ order small_marking }
+    ensures { (result ≡ half_at small_marking slot) × (result < 256) }
 {
-    HALVES
-}
-
-pub fn half(halves: &[u8; 256], k: usize) -> usize
-    requires { (halves.now ≡ small_marking.halves) × (k ≤ order small_marking) }
-    ensures { (result ≡ half_at small_marking k) × (result < 256) }
-{
-    wide(halves[k])
+    HALVES[slot] as usize
 }

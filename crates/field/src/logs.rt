@@ -3,10 +3,8 @@ ghost use Rattle.std.specs.Prelude.{◌≡◌, ◌<◌};
 ghost use Rattle.algebra.specs.Marking.{order, log_at};
 ghost use Rattle.algebra.specs.Field256.{small_marking};
 
-use crate::wide;
-
 // The exponent below 255 of each element but 0, which has none, and 0 for that.
-const LOGS: [u8; 256] = [
+static LOGS: [u8; 256] = [
     0, 0, 1, 25, 2, 50, 26, 198, 3, 223, 51, 238, 27, 104, 199, 75, 4, 100, 224, 14, 52, 141, 239,
     129, 28, 193, 105, 248, 200, 8, 76, 113, 5, 138, 101, 47, 225, 36, 15, 33, 53, 147, 142, 218,
     240, 18, 130, 69, 29, 181, 194, 125, 106, 39, 249, 185, 201, 154, 9, 120, 77, 228, 114, 166, 6,
@@ -22,15 +20,8 @@ const LOGS: [u8; 256] = [
     214, 244, 234, 168, 80, 88, 175,
 ];
 
-pub fn table() -> [u8; 256]
-    ensures { result ≡ small_marking.logs }
+pub fn exponent(element: u8) -> usize
+    ensures { (result ≡ log_at small_marking element) × (result < order small_marking) }
 {
-    LOGS
-}
-
-pub fn exponent(logs: &[u8; 256], x: usize) -> usize
-    requires { (logs.now ≡ small_marking.logs) × (x < 256) }
-    ensures { (result ≡ log_at small_marking x) × (result < order small_marking) }
-{
-    wide(logs[x])
+    LOGS[element as usize] as usize
 }

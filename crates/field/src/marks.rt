@@ -6,14 +6,7 @@ ghost use Rattle.algebra.specs.Field256.{small_marking};
 // The powers of a come round after so many.
 pub const ORDER: usize = 255;
 
-const ELEMENTS: u32 = 256;
-
-// The lowest bit of a mark's power, and of its cube.
-const POWERS_BEGIN: u32 = 65536;
-
-const CUBES_BEGIN: u32 = 16777216;
-
-const MARKS: [u32; 255] = [
+static MARKS: [u32; ORDER] = [
     16842753, 134348802, 1074003972, 973602824, 3440377872, 639631392, 759169088, 1971323008,
     2401042688, 205128192, 1618215936, 669517824, 634195968, 898048000, 3037937664, 3240525824,
     1179414371, 177790662, 1345180399, 3126512317, 3115645465, 2708839249, 1642748353, 801747842,
@@ -48,29 +41,24 @@ const MARKS: [u32; 255] = [
     4212864770, 2335600132, 745331720, 2111362931, 3484270981, 910683241, 2911811505,
 ];
 
-pub fn table() -> [u32; 255]
-    ensures { result ≡ small_marking.marks }
+#[tactic(auto, unfolding(algebra::specs::Field256::marks))]
+pub fn mark_at(exponent: usize) -> u32
+    requires { exponent < order small_marking }
+    ensures { result ≡ mark_at small_marking exponent }
 {
-    MARKS
-}
-
-pub fn mark_at(marks: &[u32; 255], e: usize) -> u32
-    requires { (marks.now ≡ small_marking.marks) × (e < order small_marking) }
-    ensures { result ≡ mark_at small_marking e }
-{
-    marks[e]
+    MARKS[exponent]
 }
 
 // a^e in the mark of e.
-pub fn power_part(mark: u32) -> usize
-    ensures { (result ≡ power_part small_marking mark) × (result < 256) }
+pub fn power_part(mark: u32) -> u8
+    ensures { result ≡ power_part small_marking mark }
 {
-    (mark / POWERS_BEGIN % ELEMENTS) as usize
+    mark.to_le_bytes()[2]
 }
 
 // a^3e in it.
-pub fn cube_part(mark: u32) -> usize
-    ensures { (result ≡ cube_part small_marking mark) × (result < 256) }
+pub fn cube_part(mark: u32) -> u8
+    ensures { result ≡ cube_part small_marking mark }
 {
-    (mark / CUBES_BEGIN) as usize
+    mark.to_le_bytes()[3]
 }

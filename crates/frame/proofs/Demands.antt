@@ -31,13 +31,17 @@ use Rattle.rules.proofs.Promises.Repair.{Written, Back, NotErased, Agree}
 use Rattle.rules.proofs.Promises.Erased.{small_ones}
 use Rattle.rules.proofs.Promises.Promised.{promised_small}
 use Rattle.frame.specs.declared.decode.Ending.{Ending}
-use Rattle.frame.specs.declared.decode.Ending.TheVariants.{Clean, Repaired, Stuck, Spent, Erased}
+use Rattle.frame.specs.declared.decode.Ending.TheVariants.{Clean, Repaired, Stuck, Spent}
 use Rattle.frame.specs.declared.decode.Report.{Report}
-use Rattle.frame.specs.declared.decode.Decoded.{Decoded}
-use Rattle.frame.specs.declared.decode.Decoded.TheVariants.{Refused, Ended}
+use Rattle.std.specs.Prelude.{Result, Ok, Err}
+use Rattle.word.specs.declared.refusal.Refusal.{Refusal}
+use Rattle.word.specs.Refused as code
+use Rattle.word.specs.Refused.{number_of}
+use Rattle.word.proofs.RefusedLaws.{number_some}
+use Rattle.word.proofs.Demands.{RefusalNumbers, word_demands}
 use Rattle.frame.specs.Calls.{Encodes, Reads, Decodes, TakesRow}
-use Rattle.frame.specs.Said.{ending_of, report_of, decoded_of, figures_for, figures}
-use Rattle.frame.proofs.SaidLaws.{figures_said}
+use Rattle.frame.specs.Said.{said, figures}
+use Rattle.frame.proofs.SaidLaws.{ending_of, report_of, back, back_again, refused_as, apart, has_not_ended, figures_refused, figures_at}
 
 -- ---- Demand 1: every entry point answers, whatever it is given
 
@@ -52,7 +56,7 @@ pub record Demand₁ : Type 0 where
       → NumberTable (1 ∷ 2 ∷ 3 ∷ 10 ∷ 6 ∷ []) [] r
       (bytes_of (data_bits small_code n) (corner (data_bits small_code n) (frame_of n frame))) frame output exit
   pub decode :
-      (n allowance : ℕ) (received output : List ℕ) (r : Decoded) (exit : List ℕ) → Decodes n allowance received output r exit
+      (n allowance : ℕ) (received output : List ℕ) (r : Result Report Refusal) (exit : List ℕ) → Decodes n allowance received output r exit
       → NumberTable (1 ∷ 2 ∷ 3 ∷ 4 ∷ 10 ∷ []) (7 ∷ 8 ∷ []) (figures r).number
       (bytes_of n (decoded small_code n allowance (frame_of n received)).last) received output exit
   -- a row that is there takes 3 bytes or more, and any other is empty
@@ -92,17 +96,16 @@ EndingSays n a received output Repaired r exit =
     PassesEnd n a received output passes.repaired r × (exit ≡ bytes_of n (after small_code n (frame_of n received) r.passes))
 EndingSays n a received output Stuck r exit = PassesEnd n a received output passes.stuck r × (exit ≡ received)
 EndingSays n a received output Spent r exit = PassesEnd n a received output passes.spent r × (exit ≡ received)
-EndingSays n a received output Erased r exit =
-    FirstReason n a received output 10 × ((r.passes ≡ 0) × (r.bits ≡ 0) × (r.rows ≡ 0) × (r.columns ≡ 0)) × (exit ≡ output)
 
--- a refusal has the number of the first reason, which is not 10, and leaves the output
-abbrev pub DecodeSays : ℕ → ℕ → List ℕ → List ℕ → Decoded → List ℕ → Type 0
-DecodeSays n a received output (Refused k) exit = (k ≢ 0) × (k ≢ 10) × FirstReason n a received output k × (exit ≡ output)
-DecodeSays n a received output (Ended r) exit = EndingSays n a received output r.ending r exit
+-- a refusal, erased among them, has the number of the first reason, and leaves the output
+abbrev pub DecodeSays : ℕ → ℕ → List ℕ → List ℕ → Result Report Refusal → List ℕ → Type 0
+DecodeSays n a received output (Err e) exit =
+    (code.number e ≢ 0) × FirstReason n a received output (code.number e) × (exit ≡ output)
+DecodeSays n a received output (Ok r) exit = EndingSays n a received output r.ending r exit
 
 -- a report's fields by their names
-abbrev pub ended : Ending → ℕ → ℕ → ℕ → ℕ → Decoded
-ended e p b r c = Ended (record { ending = e; passes = p; bits = b; rows = r; columns = c })
+abbrev pub ended : Ending → ℕ → ℕ → ℕ → ℕ → Result Report Refusal
+ended e p b r c = Ok (record { ending = e; passes = p; bits = b; rows = r; columns = c })
 
 pub record Demand₂ : Type 0 where
   -- the rule of each entry point names each number beside its reason
@@ -112,11 +115,13 @@ pub record Demand₂ : Type 0 where
   pub read :
       (n : ℕ) (frame output : List ℕ) (r : ℕ) (exit : List ℕ) → Reads n frame output r exit → ReadRule small_code n frame output r exit
   pub decode :
-      (n allowance : ℕ) (received output : List ℕ) (r : Decoded) (exit : List ℕ) → Decodes n allowance received output r exit
+      (n allowance : ℕ) (received output : List ℕ) (r : Result Report Refusal) (exit : List ℕ) → Decodes n allowance received output r exit
       → DecodeSays n allowance received output r exit
   -- each answer's number and values
-  pub refused_is : (k : ℕ) → figures (Refused k) ≡ figures_with k 0 0 0 0
-  pub erased_is : (p b r c : ℕ) → figures (ended Erased p b r c) ≡ figures_with 10 0 0 0 0
+  pub taken_is : number_of {A = Unit {0}} (Ok tt) ≡ 0
+  pub turned_away_is : (e : Refusal) → number_of {A = Unit {0}} (Err e) ≡ code.number e
+  pub refusals_are : RefusalNumbers
+  pub refused_is : (e : Refusal) → figures (Err e) ≡ figures_with (code.number e) 0 0 0 0
   pub clean_is : (p b r c : ℕ) → figures (ended Clean p b r c) ≡ figures_with 0 p b 0 0
   pub repaired_is : (p b r c : ℕ) → figures (ended Repaired p b r c) ≡ figures_with 0 p b 0 0
   pub stuck_is : (p b r c : ℕ) → figures (ended Stuck p b r c) ≡ figures_with 7 p b r c
@@ -138,7 +143,7 @@ pub record Demand₂ : Type 0 where
   -- and is clean, with no pass
   pub clean :
       (n : ℕ) (message output frame : List ℕ) → Encodes n message output 0 frame
-      → (allowance : ℕ) (lent : List ℕ) (r : Decoded) (exit : List ℕ) → length lent ≡ frame_bytes n → 1 ≤ allowance
+      → (allowance : ℕ) (lent : List ℕ) (r : Result Report Refusal) (exit : List ℕ) → length lent ≡ frame_bytes n → 1 ≤ allowance
       → allowance ≤ most_allowed → Decodes n allowance frame lent r exit → (r ≡ ended Clean 0 0 0 0) × (exit ≡ frame)
 
 -- ---- Demand 3: a spoiled frame comes back exactly, in at most two passes, at any allowance of two or more
@@ -151,9 +156,9 @@ TwoSpoiled n written received =
 -- at every permitted allowance from two on: clean or repaired, in at most two passes, as many bits as were wrong, the written bytes
 abbrev pub ComesBack : ℕ → List ℕ → List ℕ → Type 0
 ComesBack n written received =
-    (allowance : ℕ) (output : List ℕ) (r : Decoded) (exit : List ℕ) → 2 ≤ allowance → allowance ≤ most_allowed
+    (allowance : ℕ) (output : List ℕ) (r : Result Report Refusal) (exit : List ℕ) → 2 ≤ allowance → allowance ≤ most_allowed
     → length output ≡ frame_bytes n → Decodes n allowance received output r exit
-    → (q : Report) × (r ≡ Ended q) × ((q.ending ≡ Clean) ⊎ (q.ending ≡ Repaired)) × (q.passes ≤ 2) × (q.bits ≡ wrong_bits n written received)
+    → (q : Report) × (r ≡ Ok q) × ((q.ending ≡ Clean) ⊎ (q.ending ≡ Repaired)) × (q.passes ≤ 2) × (q.bits ≡ wrong_bits n written received)
     × (exit ≡ written)
 
 pub record Demand₃ : Type 0 where
@@ -194,7 +199,7 @@ pub record Demand₃ : Type 0 where
   pub counts :
       (n : ℕ) (message blank written : List ℕ) → Encodes n message blank 0 written
       → (received : List ℕ) → TwoSpoiled n written received
-      → (allowance : ℕ) (output : List ℕ) (q : Report) (exit : List ℕ) → Decodes n allowance received output (Ended q) exit
+      → (allowance : ℕ) (output : List ℕ) (q : Report) (exit : List ℕ) → Decodes n allowance received output (Ok q) exit
       → (q.ending ≡ Clean) ⊎ (q.ending ≡ Repaired) → (exit ≡ written) × (q.bits ≡ wrong_bits n written received)
   -- no two different written frames, spoiled so, agree
   pub apart :
@@ -212,7 +217,7 @@ pub record Determined : Type 0 where
       (n : ℕ) (frame output : List ℕ) (r r' : ℕ) (exit exit' : List ℕ) → Reads n frame output r exit
       → Reads n frame output r' exit' → (r ≡ r') × (exit ≡ exit')
   pub decode :
-      (n allowance : ℕ) (received output : List ℕ) (r r' : Decoded) (exit exit' : List ℕ)
+      (n allowance : ℕ) (received output : List ℕ) (r r' : Result Report Refusal) (exit exit' : List ℕ)
       → Decodes n allowance received output r exit → Decodes n allowance received output r' exit' → (r ≡ r') × (exit ≡ exit')
   -- its bytes: a contract does not say where a part lies
   pub row : (n : ℕ) (frame : List ℕ) (i : ℕ) (r r' : List ℕ) → TakesRow n frame i r → TakesRow n frame i r' → r ≡ r'
@@ -224,8 +229,7 @@ demand₁ = record {
   encode = λ n message output r exit e. rw (e.0, e.1) (promised_small.refuses.encode n message output);
   read = λ n frame output r exit e. rw (e.0, e.1) (promised_small.refuses.read n frame output);
   decode = λ n allowance received output r exit e.
-      rw (e.0, e.1, ap (λ f. f.number) (figures_said (decode_said small_code n allowance received output)))
-      (promised_small.refuses.decode n allowance received output);
+      rw (e.0, e.1) (promised_small.refuses.decode n allowance received output);
   row = λ n frame i r e.
       let p = promised_small.refuses.row n frame i in (
         λ g. let q = p.0 g in (e ∙ q.0, ap length (e ∙ q.0) ∙ q.1, omega (arith, g.0)),
@@ -253,32 +257,38 @@ ending_says n a received output exit o z k x =
     go passes.spent p y = ((z, p), y)
 
 decode_says :
-    (n a : ℕ) (received output : List ℕ) (r : Decoded) (exit : List ℕ) → Decodes n a received output r exit
+    (n a : ℕ) (received output : List ℕ) (r : Result Report Refusal) (exit : List ℕ) → Decodes n a received output r exit
     → DecodeSays n a received output r exit
-decode_says n a received output r exit e = go (ℕ_discrete rule.refusal 0) (ℕ_discrete rule.refusal 10)
+decode_says n a received output r exit e = go r e.0 (ℕ_discrete rule.refusal 0) (ℕ_discrete rule.refusal 10)
   where
     rule : DecodeRule small_code n a received output (decode_said small_code n a received output) exit
     rule = rw e.1 (promised_small.entries.decodes n a received output)
 
-    go : Dec (rule.refusal ≡ 0) → Dec (rule.refusal ≡ 10) → DecodeSays n a received output r exit
-    go (yes z) t =
+    refusing : (k : Refusal) → rule.refusal ≢ 0 → code.number k ≡ rule.refusal → DecodeSays n a received output (Err k) exit
+    refusing k z q = (number_some k, subst⁻¹ (FirstReason n a received output) q rule.number, rule.untouched z)
+
+    go :
+        (r : Result Report Refusal) → said r ≡ decode_said small_code n a received output → Dec (rule.refusal ≡ 0) → Dec (rule.refusal ≡ 10)
+        → DecodeSays n a received output r exit
+    go (Err k) q (yes z) t = let o = rule.ends z in absurd (apart (code.number k) o.0 (q ∙ o.2))
+    go (Err k) q (no z) (yes t) = refusing k z (sym (refused_as k) ∙ ap number (q ∙ rule.erases t) ∙ sym t)
+    go (Err k) q (no z) (no t) = refusing k z (sym (refused_as k) ∙ ap number (q ∙ rule.refuses z t))
+    go (Ok x) q (yes z) t =
         let o = rule.ends z in
-        subst⁻¹ (λ d. DecodeSays n a received output d exit) (e.0 ∙ ap decoded_of o.2)
+        subst⁻¹ (λ d. DecodeSays n a received output d exit) (sym (back_again (Ok x)) ∙ ap back (q ∙ o.2))
         (ending_says n a received output exit o.0 (rw z at rule.number) o.1 o.3)
-    go (no z) (yes t) =
-        subst⁻¹ (λ d. DecodeSays n a received output d exit) (e.0 ∙ ap decoded_of (rule.erases t))
-        (rw t at rule.number, (refl, refl, refl, refl), rule.untouched z)
-    go (no z) (no t) =
-        subst⁻¹ (λ d. DecodeSays n a received output d exit) (e.0 ∙ ap decoded_of (rule.refuses z t))
-        (z, t, rule.number, rule.untouched z)
+    go (Ok x) q (no z) (yes t) = absurd (has_not_ended x rules.erased refl (q ∙ rule.erases t))
+    go (Ok x) q (no z) (no t) = absurd (has_not_ended x (rules.refused rule.refusal) refl (q ∙ rule.refuses z t))
 
 pub demand₂ : Demand₂
 demand₂ = record {
   encode = λ n message output r exit e. rw (e.0, e.1) (promised_small.entries.encodes n message output);
   read = λ n frame output r exit e. rw (e.0, e.1) (promised_small.entries.reads n frame output);
   decode = decode_says;
-  refused_is = λ k. refl;
-  erased_is = λ p b r c. refl;
+  taken_is = refl;
+  turned_away_is = λ e. refl;
+  refusals_are = word_demands.refusals_are;
+  refused_is = figures_refused;
   clean_is = λ p b r c. refl;
   repaired_is = λ p b r c. refl;
   stuck_is = λ p b r c. refl;
@@ -296,63 +306,58 @@ demand₂ = record {
       let p : (decode_said small_code n allowance frame lent ≡ rules.ended passes.clean 0 0 0 0) × (decode_output small_code n allowance frame lent ≡ frame) =
       subst⁻¹ (λ s. (decode_said small_code n allowance s lent ≡ rules.ended passes.clean 0 0 0 0) × (decode_output small_code n allowance s lent ≡ s)) e.1
       (t.decodes (encode_output small_code n message output) lent allowance t.received h lo hi) in
-      (c.0 ∙ ap decoded_of p.0, c.1 ∙ p.1);
+      (sym (back_again r) ∙ ap back (c.0 ∙ p.0), c.1 ∙ p.1);
 }
 
 -- an encoding that gave 0 is one that rules' definition accepts
 pub writes : (n : ℕ) (message output written : List ℕ) → Encodes n message output 0 written → Written small_code n written
 writes n message output written e = record { input = message; blank = output; accepts = sym e.0; writes = sym e.1 }
 
--- the figures of a report that ended so
-figures_at : (q : Report) (e : Ending) → q.ending ≡ e → figures (Ended q) ≡ figures_for e q.passes q.bits q.rows q.columns
-figures_at q e h = ap (λ x. figures_for x q.passes q.bits q.rows q.columns) h
-
 -- those of a success: the number is 0, and the bits are its own
 success_figures :
-    (q : Report) → (q.ending ≡ Clean) ⊎ (q.ending ≡ Repaired) → ((figures (Ended q)).number ≡ 0) × ((figures (Ended q)).bits ≡ q.bits)
+    (q : Report) → (q.ending ≡ Clean) ⊎ (q.ending ≡ Repaired) → ((figures (Ok q)).number ≡ 0) × ((figures (Ok q)).bits ≡ q.bits)
 success_figures q (inl h) = let k = figures_at q Clean h in (ap (λ f. f.number) k, ap (λ f. f.bits) k)
 success_figures q (inr h) = let k = figures_at q Repaired h in (ap (λ f. f.number) k, ap (λ f. f.bits) k)
 
 counts_here :
     (n : ℕ) (message blank written : List ℕ) → Encodes n message blank 0 written
     → (received : List ℕ) → TwoSpoiled n written received
-    → (allowance : ℕ) (output : List ℕ) (q : Report) (exit : List ℕ) → Decodes n allowance received output (Ended q) exit
+    → (allowance : ℕ) (output : List ℕ) (q : Report) (exit : List ℕ) → Decodes n allowance received output (Ok q) exit
     → (q.ending ≡ Clean) ⊎ (q.ending ≡ Repaired) → (exit ≡ written) × (q.bits ≡ wrong_bits n written received)
 counts_here n message blank written e received s allowance output q exit c h =
-    let said : figures (Ended q) ≡ figures_of (decode_said small_code n allowance received output) =
-    ap figures c.0 ∙ figures_said (decode_said small_code n allowance received output) in
+    let same : figures (Ok q) ≡ figures_of (decode_said small_code n allowance received output) = ap figures_of c.0 in
     let z = success_figures q h in
     let k =
     promised_small.repairs.counts n allowance written received output (writes n message blank written e) s
-    (sym (ap (λ f. f.number) said) ∙ z.0) in
-    (c.1 ∙ k.0, sym z.1 ∙ ap (λ f. f.bits) said ∙ k.1)
+    (sym (ap (λ f. f.number) same) ∙ z.0) in
+    (c.1 ∙ k.0, sym z.1 ∙ ap (λ f. f.bits) same ∙ k.1)
 
 back_here :
     (n : ℕ) (message blank written : List ℕ) → Encodes n message blank 0 written
     → (received : List ℕ) → TwoSpoiled n written received → NotErased n received → ComesBack n written received
 back_here n message blank written e received s seen allowance output r exit lo hi h c = go (ℕ_discrete rule.refusal 0) (ℕ_discrete rule.refusal 10)
   where
-    back : Back small_code n allowance written received output
-    back = promised_small.repairs.back n allowance written received output (writes n message blank written e) s seen lo hi h
+    comes : Back small_code n allowance written received output
+    comes = promised_small.repairs.back n allowance written received output (writes n message blank written e) s seen lo hi h
 
     rule : DecodeRule small_code n allowance received output (decode_said small_code n allowance received output) (decode_output small_code n allowance received output)
     rule = promised_small.entries.decodes n allowance received output
 
     go :
         Dec (rule.refusal ≡ 0) → Dec (rule.refusal ≡ 10)
-        → (q : Report) × (r ≡ Ended q) × ((q.ending ≡ Clean) ⊎ (q.ending ≡ Repaired)) × (q.passes ≤ 2) × (q.bits ≡ wrong_bits n written received)
+        → (q : Report) × (r ≡ Ok q) × ((q.ending ≡ Clean) ⊎ (q.ending ≡ Repaired)) × (q.passes ≤ 2) × (q.bits ≡ wrong_bits n written received)
         × (exit ≡ written)
     go (yes z) t =
         let o = rule.ends z in
         let q : Report = report_of o.0 in
-        let is : r ≡ Ended q = c.0 ∙ ap decoded_of o.2 in
+        let is : r ≡ Ok q = sym (back_again r) ∙ ap back (c.0 ∙ o.2) in
         let ending : (q.ending ≡ Clean) ⊎ (q.ending ≡ Repaired) =
-        ⊎_elim (λ x. inl (ap ending_of x)) (λ x. inr (ap ending_of x)) (told_success o.0 (sym (ap number o.2) ∙ back.zero)) in
-        let few : (figures_of (rules.told o.0)).passes ≤ 2 = rw o.2 at back.few in
-        let k = counts_here n message blank written e received s allowance output q exit (sym is ∙ c.0, c.1) ending in
+        ⊎_elim (λ x. inl (ap ending_of x)) (λ x. inr (ap ending_of x)) (told_success o.0 (sym (ap number o.2) ∙ comes.zero)) in
+        let few : (figures_of (rules.told o.0)).passes ≤ 2 = rw o.2 at comes.few in
+        let k = counts_here n message blank written e received s allowance output q exit (sym (ap said is) ∙ c.0, c.1) ending in
         (q, is, ending, omega (arith, few, (told_both o.0).0), k.1, k.0)
-    go (no z) (yes t) = let k = sym (ap number (rule.erases t)) ∙ back.zero in absurd (omega arith)
-    go (no z) (no t) = absurd (z (sym (ap number (rule.refuses z t)) ∙ back.zero))
+    go (no z) (yes t) = let k = sym (ap number (rule.erases t)) ∙ comes.zero in absurd (omega arith)
+    go (no z) (no t) = absurd (z (sym (ap number (rule.refuses z t)) ∙ comes.zero))
 
 -- neither of two places
 not_named : (i p q : ℕ) → is_in i (p ∷ q ∷ []) ≡ false → (i ≢ p) × (i ≢ q)
@@ -417,6 +422,7 @@ pub determined : Determined
 determined = record {
   encode = λ n message output r r' exit exit' e e'. (e.0 ∙ sym e'.0, e.1 ∙ sym e'.1);
   read = λ n frame output r r' exit exit' e e'. (e.0 ∙ sym e'.0, e.1 ∙ sym e'.1);
-  decode = λ n allowance received output r r' exit exit' e e'. (e.0 ∙ sym e'.0, e.1 ∙ sym e'.1);
+  decode = λ n allowance received output r r' exit exit' e e'.
+      (sym (back_again r) ∙ ap back (e.0 ∙ sym e'.0) ∙ back_again r', e.1 ∙ sym e'.1);
   row = λ n frame i r r' e e'. e ∙ sym e';
 }

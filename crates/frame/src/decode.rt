@@ -2,33 +2,33 @@
 ghost use Rattle.std.specs.Prelude.{◌≡◌, ◌≤◌};
 ghost use Rattle.rules.specs.Codes.{small_code};
 ghost use Rattle.rules.specs.Passes.{is_stuck};
-ghost use Rattle.rules.specs.Numbers.{most_allowed, not_allowed};
+ghost use Rattle.rules.specs.Numbers.{most_allowed, not_allowed, decode_refusal};
 ghost use Rattle.laws.specs.Turns.{Copied};
+ghost use Rattle.word.specs.Refused.{number_of};
 ghost use Rattle.frame.specs.Calls.{Repairs, Decodes};
-ghost use Rattle.frame.specs.Said.{uncounted, is_failure};
+ghost use Rattle.frame.specs.Said.{is_failure};
 
 use crate::words::{bad, mend_word};
 use square::corner::copy_corner;
 use square::differences::differences;
 use square::erased::is_erased;
 use square::sizes::square_bytes;
-use word::numbers::{BAD_ALLOWANCE, BAD_INPUT_LENGTH, BAD_N, BAD_OUTPUT_LENGTH};
-use word::sizes::outside;
+use word::refusal::Refusal;
+use word::sizes::{check_lengths, check_n};
 
 const MOST_ALLOWED: usize = 200;
 
-#[derive(Clone, Copy)]
+#[derive(Clone, Copy, Debug, PartialEq, Eq)]
 pub enum Ending {
     Clean,
     Repaired,
     Stuck,
     Spent,
-    Erased,
 }
 
 // Bits: in how many code bits the last frame differs from the received one, also where it is not handed out.
 // Rows and columns: those left at the end that are no codewords; only stuck and spent have any.
-#[derive(Clone, Copy)]
+#[derive(Clone, Copy, Debug, PartialEq, Eq)]
 pub struct Report {
     pub ending: Ending,
     pub passes: usize,
@@ -37,56 +37,36 @@ pub struct Report {
     pub columns: usize,
 }
 
-// A refusal by its number, or how decoding ended.
-#[derive(Clone, Copy)]
-pub enum Decoded {
-    Refused(u32),
-    Ended(Report),
-}
+// No pass was made.
+const CLEAN: Report = Report {
+    ending: Ending::Clean,
+    passes: 0,
+    bits: 0,
+    rows: 0,
+    columns: 0,
+};
 
-// No pass was made, and nothing is counted.
-fn uncounted(ending: Ending) -> Report
-    ensures { result ≡ uncounted ending }
-{
-    Report {
-        ending,
-        passes: 0,
-        bits: 0,
-        rows: 0,
-        columns: 0,
-    }
-}
-
-// Stuck and spent hand nothing out. `repair` never ends as erased: the match names it since it must name all.
+// Stuck and spent hand nothing out.
 fn is_failure(ending: Ending) -> bool
     ensures { result ≡ is_failure ending }
 {
     match ending {
-        Ending::Stuck => true,
-        Ending::Spent => true,
-        Ending::Erased => true,
-        Ending::Clean => false,
-        Ending::Repaired => false,
+        Ending::Clean | Ending::Repaired => false,
+        Ending::Stuck | Ending::Spent => true,
     }
 }
 
 fn not_allowed(allowance: usize) -> bool
     ensures { result ≡ not_allowed allowance }
 {
-    if allowance < 1 {
-        return true;
-    }
-    MOST_ALLOWED < allowance
+    !(1..=MOST_ALLOWED).contains(&allowance)
 }
 
 // A pass that flipped nothing, but for pass 1: the columns may still mend what the rows could not.
 fn is_stuck(pass: usize, changes: usize) -> bool
     ensures { result ≡ is_stuck pass changes }
 {
-    if pass < 2 {
-        return false;
-    }
-    changes == 0
+    2 <= pass && changes == 0
 }
 
 // The passes, made in `s`, a copy of the received frame, which is left as the last pass left it.
@@ -97,16 +77,16 @@ fn repair(n: usize, allowance: usize, received: &[u8], s: &mut [u8]) -> Report
     let mut rows = bad(n, s, false);
     let mut columns = bad(n, s, true);
     if rows + columns == 0 {
-        return uncounted(Ending::Clean);
+        return CLEAN;
     }
     let mut passes = 0;
     let ending = loop {
         let by_columns = passes % 2 == 1;
         let mut changes = 0;
         for k in 0..n {
-            changes = changes + mend_word(n, s, by_columns, k);
+            changes += mend_word(n, s, by_columns, k);
         }
-        passes = passes + 1;
+        passes += 1;
         rows = bad(n, s, false);
         columns = bad(n, s, true);
         if rows + columns == 0 {
@@ -129,30 +109,35 @@ fn repair(n: usize, allowance: usize, received: &[u8], s: &mut [u8]) -> Report
     }
 }
 
-// Numbers 1 to 4 and erased leave `frame` untouched; stuck and spent leave the received bytes in it.
-pub fn decode(n: usize, allowance: usize, received: &[u8], frame: &mut [u8]) -> Decoded
-    ensures { Decodes n allowance received.now frame.old result frame.new }
+fn check(n: usize, allowance: usize, received: &[u8], frame: &[u8]) -> Result<(), Refusal>
+    ensures { number_of result ≡ decode_refusal small_code n allowance received.now frame.now }
 {
-    if outside(n) {
-        return Decoded::Refused(BAD_N);
-    }
-    if received.len() != square_bytes(n) {
-        return Decoded::Refused(BAD_INPUT_LENGTH);
-    }
-    if frame.len() != square_bytes(n) {
-        return Decoded::Refused(BAD_OUTPUT_LENGTH);
-    }
+    check_n(n)?;
+    let bytes = square_bytes(n);
+    check_lengths(received, bytes, frame, bytes)?;
     if not_allowed(allowance) {
-        return Decoded::Refused(BAD_ALLOWANCE);
+        return Err(Refusal::BadAllowance);
     }
     if is_erased(n, received) {
-        return Decoded::Ended(uncounted(Ending::Erased));
+        return Err(Refusal::Erased);
     }
+    Ok(())
+}
+
+// A refusal leaves `frame` untouched; stuck and spent leave the received bytes in it.
+pub fn decode(
+    n: usize,
+    allowance: usize,
+    received: &[u8],
+    frame: &mut [u8],
+) -> Result<Report, Refusal>
+    ensures { Decodes n allowance received.now frame.old result frame.new }
+{
+    check(n, allowance, received, frame)?;
     copy_corner(n, n, received, n, frame);
     let report = repair(n, allowance, received, frame);
-    let ending = report.ending;
-    if is_failure(ending) {
+    if is_failure(report.ending) {
         frame.copy_from_slice(received);
     }
-    Decoded::Ended(report)
+    Ok(report)
 }

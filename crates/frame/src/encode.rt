@@ -2,15 +2,16 @@
 ghost use Rattle.std.specs.Prelude.{◌≡◌, false, length};
 ghost use Rattle.rules.specs.Codes.{small_code};
 ghost use Rattle.rules.specs.Frames.{is_erased};
-ghost use Rattle.rules.specs.Numbers.{outside, data_bytes, frame_for};
+ghost use Rattle.rules.specs.Numbers.{outside, data_bytes, frame_for, encode_number};
+ghost use Rattle.word.specs.Refused.{number_of};
 ghost use Rattle.frame.specs.Calls.{Encodes};
 
 use crate::words::encode_words;
 use square::corner::{copy_corner, is_packed};
 use square::erased::is_erased;
 use square::sizes::square_bytes;
-use word::numbers::{BAD_INPUT_LENGTH, BAD_N, BAD_OUTPUT_LENGTH, DONE, ERASED, SPARE_BIT_SET};
-use word::sizes::{CHECK_BITS, outside};
+use word::refusal::Refusal;
+use word::sizes::{CHECK_BITS, check_lengths, check_n};
 
 // The one n at which a word of ones is a codeword, and so a square of ones a frame.
 const ONES_CODEWORD: usize = 256;
@@ -26,28 +27,29 @@ fn makes_erased(n: usize, message: &[u8]) -> bool
     is_erased(n - CHECK_BITS, message)
 }
 
-// The number of the rules; all but 0 leave `frame` untouched.
-pub fn encode(n: usize, message: &[u8], frame: &mut [u8]) -> u32
-    ensures { Encodes n message.now frame.old result frame.new }
+fn check(n: usize, message: &[u8], frame: &[u8]) -> Result<(), Refusal>
+    ensures { number_of result ≡ encode_number small_code n message.now frame.now }
 {
-    if outside(n) {
-        return BAD_N;
-    }
+    check_n(n)?;
     let k = n - CHECK_BITS;
-    if message.len() != square_bytes(k) {
-        return BAD_INPUT_LENGTH;
-    }
-    if frame.len() != square_bytes(n) {
-        return BAD_OUTPUT_LENGTH;
-    }
+    check_lengths(message, square_bytes(k), frame, square_bytes(n))?;
     if !is_packed(k, message) {
-        return SPARE_BIT_SET;
+        return Err(Refusal::SpareBitSet);
     }
     if makes_erased(n, message) {
-        return ERASED;
+        return Err(Refusal::Erased);
     }
+    Ok(())
+}
+
+// A refusal leaves `frame` untouched.
+pub fn encode(n: usize, message: &[u8], frame: &mut [u8]) -> Result<(), Refusal>
+    ensures { Encodes n message.now frame.old (number_of result) frame.new }
+{
+    check(n, message, frame)?;
+    let k = n - CHECK_BITS;
     copy_corner(k, k, message, n, frame);
     encode_words(n, frame, false, k);
     encode_words(n, frame, true, n);
-    DONE
+    Ok(())
 }

@@ -1,33 +1,42 @@
 // Reading the data back.
+ghost use Rattle.std.specs.Prelude.{◌≡◌};
+ghost use Rattle.rules.specs.Codes.{small_code};
+ghost use Rattle.rules.specs.Numbers.{read_number};
+ghost use Rattle.word.specs.Refused.{number_of};
 ghost use Rattle.frame.specs.Calls.{Reads};
 
 use crate::words::bad;
 use square::corner::copy_corner;
 use square::erased::is_erased;
 use square::sizes::square_bytes;
-use word::numbers::{BAD_INPUT_LENGTH, BAD_N, BAD_OUTPUT_LENGTH, DONE, ERASED, NOT_CODEWORDS};
-use word::sizes::{CHECK_BITS, outside};
+use word::refusal::Refusal;
+use word::sizes::{CHECK_BITS, check_lengths, check_n};
 
-// The number of the rules; all but 0 leave `message` untouched.
-pub fn read(n: usize, frame: &[u8], message: &mut [u8]) -> u32
-    ensures { Reads n frame.now message.old result message.new }
+fn check(n: usize, frame: &[u8], message: &[u8]) -> Result<(), Refusal>
+    ensures { number_of result ≡ read_number small_code n frame.now message.now }
 {
-    if outside(n) {
-        return BAD_N;
-    }
-    let k = n - CHECK_BITS;
-    if frame.len() != square_bytes(n) {
-        return BAD_INPUT_LENGTH;
-    }
-    if message.len() != square_bytes(k) {
-        return BAD_OUTPUT_LENGTH;
-    }
+    check_n(n)?;
+    check_lengths(
+        frame,
+        square_bytes(n),
+        message,
+        square_bytes(n - CHECK_BITS),
+    )?;
     if is_erased(n, frame) {
-        return ERASED;
+        return Err(Refusal::Erased);
     }
     if bad(n, frame, false) + bad(n, frame, true) != 0 {
-        return NOT_CODEWORDS;
+        return Err(Refusal::NotCodewords);
     }
+    Ok(())
+}
+
+// A refusal leaves `message` untouched.
+pub fn read(n: usize, frame: &[u8], message: &mut [u8]) -> Result<(), Refusal>
+    ensures { Reads n frame.now message.old (number_of result) message.new }
+{
+    check(n, frame, message)?;
+    let k = n - CHECK_BITS;
     copy_corner(k, n, frame, k, message);
-    DONE
+    Ok(())
 }

@@ -11,16 +11,10 @@ use word::sizes::{outside, row_bytes};
 fn is_refused(n: usize, frame: &[u8], i: usize) -> bool
     ensures { result ≡ row_refused small_code n frame.now i }
 {
-    if outside(n) {
-        return true;
-    }
-    if frame.len() != square_bytes(n) {
-        return true;
-    }
-    n <= i
+    outside(n) || frame.len() != square_bytes(n) || n <= i
 }
 
-// Row i, as that part of the caller's own bytes; an empty part where it is refused.
+// Row i, as that part of the caller's own bytes; an empty part where it is refused: a row can't fail, and `TakesRow` has it so.
 pub fn row<'a>(n: usize, frame: &'a [u8], i: usize) -> &'a [u8]
     ensures { TakesRow n frame.now i result.now }
 {
@@ -29,6 +23,5 @@ pub fn row<'a>(n: usize, frame: &'a [u8], i: usize) -> &'a [u8]
     }
     let wide = row_bytes(n);
     let from = i * wide;
-    let to = from + wide;
-    &frame[from..to]
+    &frame[from..from + wide]
 }

@@ -1,30 +1,44 @@
 // A frame's words, in one of two directions: rows or columns.
-ghost use Rattle.std.specs.Prelude.{◌≡◌, ◌<◌, ◌≤◌};
+ghost use Rattle.std.specs.Prelude.{◌≡◌, ◌<◌, ◌≤◌, not};
 ghost use Rattle.rules.specs.Codes.{length_limit, small_code};
+ghost use Rattle.rules.specs.Words.{is_codeword};
 ghost use Rattle.rules.specs.Frames.{bad_rows};
 ghost use Rattle.rules.specs.Bits.{frame_of, bytes_of};
-ghost use Rattle.laws.specs.Turns.{turned, start_of, step_of, worked, completed, Whole, Ready};
+ghost use Rattle.laws.specs.Turns.{turned, word_in, worked, completed, Whole, Ready};
 ghost use Rattle.frame.specs.Calls.{MendsWord};
+ghost use Rattle.frame.specs.Words.{lies};
 
-use word::checks::checks;
-use word::encode::encode_word;
-use word::mend::{changes, mend};
+use word::at::WordAt;
 use word::sizes::row_bytes;
 
-// The bit that word k starts at.
-pub(crate) fn start(n: usize, columns: bool, k: usize) -> usize
+// Where word k in the direction lies in the frame's bytes.
+#[tactic(auto, unfolding(laws::specs::Turns::start_of, laws::specs::Turns::step_of))]
+fn word(n: usize, columns: bool, k: usize) -> WordAt
     requires { (n ≤ length_limit) × (k ≤ length_limit) }
-    ensures { result ≡ start_of n columns k }
+    ensures { result ≡ lies n columns k }
 {
-    if columns { k } else { k * (row_bytes(n) * 8) }
+    let wide = row_bytes(n) * 8;
+    if columns {
+        WordAt {
+            n,
+            start: k,
+            step: wide,
+        }
+    } else {
+        WordAt {
+            n,
+            start: k * wide,
+            step: 1,
+        }
+    }
 }
 
-// The step from bit to bit of a word.
-pub(crate) fn step(n: usize, columns: bool) -> usize
-    requires { n ≤ length_limit }
-    ensures { result ≡ step_of n columns }
+// Whether word k in the direction is no codeword.
+fn is_bad(n: usize, s: &[u8], columns: bool, k: usize) -> bool
+    requires { Whole small_code n s.now × (k < n) }
+    ensures { result ≡ not (is_codeword small_code n (word_in n columns s.now k)) }
 {
-    if columns { row_bytes(n) * 8 } else { 1 }
+    word(n, columns, k).checks(s) != 0
 }
 
 // How many words in the direction are not codewords.
@@ -32,14 +46,7 @@ pub(crate) fn bad(n: usize, s: &[u8], columns: bool) -> usize
     requires { Whole small_code n s.now }
     ensures { (result ≡ bad_rows small_code n (turned n columns (frame_of n s.now))) × (result ≤ length_limit) }
 {
-    let by = step(n, columns);
-    let mut found = 0;
-    for k in 0..n {
-        if checks(n, s, start(n, columns, k), by) != 0 {
-            found = found + 1;
-        }
-    }
-    found
+    (0..n).filter(|k| is_bad(n, s, columns, *k)).count()
 }
 
 // Encodes the first m words in the direction.
@@ -47,9 +54,8 @@ pub(crate) fn encode_words(n: usize, s: &mut [u8], columns: bool, m: usize)
     requires { Ready small_code n s.old × (m ≤ n) }
     ensures { s.new ≡ bytes_of n (worked n columns (completed small_code n) m (frame_of n s.old)) }
 {
-    let by = step(n, columns);
     for k in 0..m {
-        encode_word(n, s, start(n, columns, k), by);
+        word(n, columns, k).encode(s);
     }
 }
 
@@ -58,5 +64,5 @@ pub(crate) fn mend_word(n: usize, s: &mut [u8], columns: bool, k: usize) -> usiz
     requires { Whole small_code n s.old × (k < n) }
     ensures { MendsWord n columns k s.old result s.new }
 {
-    changes(mend(n, s, start(n, columns, k), step(n, columns)))
+    word(n, columns, k).mend(s).changes()
 }

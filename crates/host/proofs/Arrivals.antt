@@ -1,6 +1,7 @@
 -- What C gets of a frame in pieces: calls one after the other, each with the number that the one before returned, and decode after the last.
 -- Assumes nothing.
-use mathlib.Core.Path.{◌≡◌, refl, sym, ap, ap₂, subst, subst⁻¹, ◌∙◌}
+use Rattle.std.proofs.Common.{rules}
+use mathlib.Core.Path.{◌≡◌, refl, sym, ap, ap₂, subst, ◌∙◌}
 use mathlib.Core.Logic.{◌≢◌}
 use mathlib.Core.Bool.{true, false, true≢false}
 use mathlib.Core.List.{List, [], ◌∷◌}
@@ -16,8 +17,7 @@ use Rattle.rules.proofs.Promises.Repair.{NotErased}
 use Rattle.frame.specs.Calls.{Encodes}
 use Rattle.frame.proofs.Demands.{TwoSpoiled}
 use Rattle.receiver.specs.declared.state.State.{State}
-use Rattle.receiver.specs.declared.state.Received.{Received}
-use Rattle.receiver.specs.Pieces.{fresh_of, receive}
+use Rattle.receiver.specs.Pieces.{Told, fresh_of, receive}
 use Rattle.receiver.specs.Packed.{state_in, said_in, packed, host_receive}
 use Rattle.receiver.specs.Calls.{Receives}
 use Rattle.receiver.proofs.ReceiveRule.{ReceiveRule}
@@ -104,7 +104,7 @@ pub record HostArrivals : Type 0 where
 
 module _
     (x : ℕ) (piece frame : List ℕ) (y : ℕ) (exit : List ℕ) (h : x < 2 ^ 64) (c : HostReceives x piece frame y exit) where
-  abbrev said : Received
+  abbrev said : Told
   said = (receive small_code (state_in x) piece frame).said
 
   returned : y ≡ packed said
@@ -119,12 +119,11 @@ module _
   read_said = ap said_in returned ∙ (packing small_code sound_small).read_back said ((packing small_code sound_small).fits x h piece frame)
 
   as_library : Receives (state_in x) piece frame (said_in y) exit
-  as_library = ap₂ (λ (r : Received) (e : List ℕ). record { said = r; output = e }) read_said left_there
+  as_library = ap₂ (λ (r : Told) (e : List ℕ). record { said = r; output = e }) read_said left_there
 
   narrow : (y < 2 ^ 64) × (y % 2 ^ 16 < 2 ^ 9)
   narrow =
-      subst⁻¹ (λ (k : ℕ). (k < 2 ^ 64) × (k % 2 ^ 16 < 2 ^ 9)) returned
-      ((packing small_code sound_small).narrow said ((packing small_code sound_small).fits x h piece frame))
+      rw returned ((packing small_code sound_small).narrow said ((packing small_code sound_small).fits x h piece frame))
 
   kept : (said_in y).number ≢ 0 → (y / 2 ^ 16 ≡ x / 2 ^ 16) × (exit ≡ frame)
   kept z =
@@ -139,14 +138,7 @@ same :
     → HostReceives x' piece frame y' exit' → (y ≡ y') × (exit ≡ exit')
 unfolding host_receive
 same x x' piece frame y y' exit exit' h c c' =
-    let k = (packing small_code sound_small).low_bits x x' h in
-    let e : ◌≡◌ {A = Exit ℕ} (record { said = y; output = exit }) (record { said = y'; output = exit' }) =
-    c
-    ∙ ap
-    (λ (s : State).
-    record { said = packed (receive small_code s piece frame).said; output = (receive small_code s piece frame).output }) k
-    ∙ sym c' in
-    (ap (λ (a : Exit ℕ). a.said) e, ap (λ (a : Exit ℕ). a.output) e)
+    let k = (packing small_code sound_small).low_bits x x' h in search (rules, k, c, c')
 
 -- ---- Calls one after the other
 
@@ -166,9 +158,7 @@ last_number :
     → (end % 2 ^ 16 < 2 ^ 9) × ((said_in end).number ≡ 0) × ((said_in end).more ≡ last_more true (read (c ∷ calls)))
 last_number [] c n b x frame end left h (t, (e, f)) (z, w, rest) =
     let k = narrow x c.piece frame c.returned c.frame h t in
-    subst
-    (λ (y : ℕ). (y % 2 ^ 16 < 2 ^ 9) × ((said_in y).number ≡ 0) × ((said_in y).more ≡ (said_in c.returned).more)) e
-    (k.1, z, refl)
+    rw (sym e) (k.1, z, refl)
 last_number (d ∷ calls) c n b x frame end left h (t, rest) (z, w, more) =
     last_number calls d n (b + length c.piece) c.returned c.frame end left
     (narrow x c.piece frame c.returned c.frame h t).0 rest more
@@ -215,7 +205,7 @@ module _
   as_sent :
       (allowance : ℕ) (output : List ℕ) (r : ℕ) (exit block : List ℕ) → WithBlock n allowance left output r exit block
       → WithBlock n allowance sent output r exit block
-  as_sent allowance output r exit block = subst (λ (s : List ℕ). WithBlock n allowance s output r exit block) ends.buffer
+  as_sent allowance output r exit block d = rw ends.buffer at d
 
   host_ends : HostEnds n sent calls end left
   host_ends = record {

@@ -1,7 +1,7 @@
 -- What C gets: the demands, of what encode, decode and read return and leave in what is lent. Decode's values are those that the header
 -- reads out of its block.
 -- Assumes nothing.
-use mathlib.Core.Path.{◌≡◌, refl, sym, ap, ◌∙◌}
+use mathlib.Core.Path.{◌≡◌, sym, ap, ◌∙◌}
 use mathlib.Core.Logic.{◌≢◌, ◌↔◌}
 use mathlib.Core.List.{List, [], ◌∷◌}
 use Prim.Native.Nat.{ℕ, ◌≤◌, ◌<◌}
@@ -19,10 +19,12 @@ use Rattle.rules.proofs.Promises.Refusals.{NumberTable}
 use Rattle.rules.proofs.Promises.EntryRules.{EncodeRule, ReadRule, DecodeRule}
 use Rattle.rules.proofs.Promises.Repair.{NotErased}
 use Rattle.rules.proofs.Promises.Promised.{promised_small}
-use Rattle.frame.specs.declared.decode.Decoded as code
+use Rattle.std.specs.Prelude.{Result}
+use Rattle.word.specs.declared.refusal.Refusal.{Refusal}
+use Rattle.frame.specs.declared.decode.Report.{Report}
 use Rattle.frame.specs.Calls.{Encodes, Reads, Decodes}
-use Rattle.frame.specs.Said.{decoded_of, figures}
-use Rattle.frame.proofs.SaidLaws.{figures_said}
+use Rattle.frame.specs.Said.{figures}
+use Rattle.frame.proofs.SaidLaws.{back, said_back}
 use Rattle.frame.proofs.Demands.{TwoSpoiled, writes, demand₁, demand₂}
 use Rattle.host.specs.Calls.{HostDecodes}
 
@@ -75,7 +77,7 @@ pub record HostDemands : Type 0 where
   -- a call of decode is one of the library's, and its values are read out of the block
   pub library :
       (n allowance : ℕ) (received output : List ℕ) (r : ℕ) (exit left : List ℕ) → WithBlock n allowance received output r exit left
-      → (q : code.Decoded) × Decodes n allowance received output q exit × (read_block left ≡ figures q)
+      → (q : Result Report Refusal) × Decodes n allowance received output q exit × (read_block left ≡ figures q)
   -- demand 3
   pub comes_back :
       (n : ℕ) (message blank written : List ℕ) → Encodes n message blank 0 written
@@ -146,9 +148,9 @@ host_demands = record {
   back = demand₂.back;
   library = λ n allowance received output r exit left c.
       let g = got n allowance received output r exit left c in (
-        decoded_of (decode_said small_code n allowance received output),
-        (refl, g.frame),
-        g.read ∙ sym (figures_said (decode_said small_code n allowance received output)),
+        back (decode_said small_code n allowance received output),
+        (said_back n allowance received output, g.frame),
+        g.read ∙ sym (ap figures_of (said_back n allowance received output)),
       );
   comes_back = λ n message blank written w received s seen allowance output r exit left lo hi h c.
       let g = got n allowance received output r exit left c in

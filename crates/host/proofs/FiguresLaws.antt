@@ -10,25 +10,14 @@ use Rattle.rules.specs.Numbers as rules
 use Rattle.rules.specs.Numbers.{decode_said}
 use Rattle.rules.specs.Block.{block}
 use Rattle.rules.proofs.Promises.Promised.{promised_small}
-use Rattle.frame.specs.declared.decode.Ending.{Ending}
+use Rattle.std.specs.Prelude.{Result}
+use Rattle.word.specs.declared.refusal.Refusal.{Refusal}
 use Rattle.frame.specs.declared.decode.Report.{Report}
-use Rattle.frame.specs.declared.decode.Decoded.{Decoded}
 use Rattle.frame.specs.Calls.{Decodes}
-use Rattle.frame.specs.Said.{report_figures, figures, figures_for}
-use Rattle.frame.proofs.SaidLaws.{figures_said}
+use Rattle.frame.specs.Said.{figures}
 use Rattle.host.specs.declared.figures.Figures.{Figures}
 use Rattle.host.specs.Figured.{figures_in}
 use Rattle.host.specs.Calls.{HostDecodes}
-
--- a report's values, by its ending
-pub report_case :
-    (f : Figures) (r : Report) (e : Ending) → r.ending ≡ e → figures_in f ≡ figures_for e r.passes r.bits r.rows r.columns
-    → figures_in f ≡ report_figures r
-report_case f r e is q = q ∙ ap (λ x. figures_for x r.passes r.bits r.rows r.columns) (sym is)
-
--- an answer's, by its case
-pub answer_case : (f : Figures) (d e : Decoded) → d ≡ e → figures_in f ≡ figures e → figures_in f ≡ figures d
-answer_case f d e is q = q ∙ ap figures (sym is)
 
 module _ (n allowance : ℕ) (received output lent : List ℕ) where
   pub refused_block : length lent ≢ 20 → HostDecodes n allowance received output lent 11 output lent
@@ -36,11 +25,11 @@ module _ (n allowance : ℕ) (received output lent : List ℕ) where
 
   -- what was decoded, and its values in the block
   pub put_block :
-      (d : Decoded) (f : Figures) (exit left : List ℕ) → length lent ≡ 20 → Decodes n allowance received output d exit
+      (d : Result Report Refusal) (f : Figures) (exit left : List ℕ) → length lent ≡ 20 → Decodes n allowance received output d exit
       → figures_in f ≡ figures d → left ≡ block (figures_in f) → HostDecodes n allowance received output lent f.number exit left
   put_block d f exit left long e q p =
       let is : figures_in f ≡ rules.figures_of (decode_said small_code n allowance received output) =
-      q ∙ ap figures e.0 ∙ figures_said (decode_said small_code n allowance received output) in
+      q ∙ ap rules.figures_of e.0 in
       ap (λ x. record { returned = f.number; frame = exit; block = x }) p
       ∙ ap₂ (λ x y. record { returned = x.number; frame = y; block = block x }) is e.1
       ∙ sym (promised_small.blocks.of_length n allowance received output lent long)

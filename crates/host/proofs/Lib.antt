@@ -2,7 +2,5 @@
 pub mod Demands
 -- Laws of what decode says, in the code's struct and as C gets it
 pub mod FiguresLaws
--- and of what receive says
-pub mod ReceiveLaws
 -- The demands, of a frame that C gets in pieces
 pub mod Arrivals

@@ -1,4 +1,5 @@
-// The four functions of include/gazenohyri.h. They require nothing but what the header says that a caller owes.
+// The four functions of include/gazenohyri.h. They require nothing but what the header says that a caller owes. C gets numbers where
+// Rattle has enums.
 ghost use Rattle.frame.specs.Calls.{Encodes, Reads};
 ghost use Rattle.host.specs.Calls.{HostDecodes, HostReceives};
 
@@ -8,7 +9,7 @@ use frame::encode::encode;
 use frame::read::read;
 use receiver::packed::{packed, state_in};
 use receiver::state::receive;
-use word::numbers::BAD_BLOCK_LENGTH;
+use word::refusal::{DONE, Refusal, number_of};
 
 // The length of the block that C lends to decode.
 const BLOCK_BYTES: usize = 20;
@@ -17,7 +18,7 @@ const BLOCK_BYTES: usize = 20;
 pub extern "C" fn gazenohyri_encode(n: usize, message: &[u8], frame: &mut [u8]) -> u32
     ensures { Encodes n message.now frame.old result frame.new }
 {
-    encode(n, message, frame)
+    number_of(encode(n, message, frame))
 }
 
 #[unsafe(no_mangle)]
@@ -31,7 +32,7 @@ pub extern "C" fn gazenohyri_decode(
     ensures { HostDecodes n allowance received.now frame.old block.old result frame.new block.new }
 {
     if block.len() != BLOCK_BYTES {
-        return BAD_BLOCK_LENGTH;
+        return Refusal::BadBlockLength.number();
     }
     let f = figures_of(decode(n, allowance, received, frame));
     put_figures(f, block);
@@ -42,12 +43,16 @@ pub extern "C" fn gazenohyri_decode(
 pub extern "C" fn gazenohyri_read(n: usize, frame: &[u8], message: &mut [u8]) -> u32
     ensures { Reads n frame.now message.old result message.new }
 {
-    read(n, frame, message)
+    number_of(read(n, frame, message))
 }
 
 #[unsafe(no_mangle)]
 pub extern "C" fn gazenohyri_receive(state: u64, piece: &[u8], frame: &mut [u8]) -> u64
     ensures { HostReceives state piece.now frame.old result frame.new }
 {
-    packed(receive(state_in(state), piece, frame))
+    let before = state_in(state);
+    match receive(before, piece, frame) {
+        Ok(r) => packed(r.state, DONE, r.more),
+        Err(refusal) => packed(before, refusal.number(), false),
+    }
 }

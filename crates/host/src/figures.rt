@@ -2,13 +2,17 @@
 ghost use Rattle.std.specs.Prelude.{◌≡◌, length};
 ghost use Rattle.rules.specs.Block as rules;
 ghost use Rattle.rules.specs.Block.{block_bytes};
-ghost use Rattle.rules.specs.Numbers.{figures_with};
-ghost use Rattle.frame.specs.Said.{report_figures, figures};
+ghost use Rattle.frame.specs.Said.{figures};
 ghost use Rattle.host.specs.Figured.{figures_in};
 
 use block::put::put_numbers;
-use frame::decode::{Decoded, Ending, Report};
-use word::numbers::{DONE, ERASED, SPENT, STUCK};
+use frame::decode::{Ending, Report};
+use word::refusal::{DONE, Refusal};
+
+// The numbers that C has for the two endings that hand nothing out.
+const STUCK: u32 = 7;
+
+const SPENT: u32 = 8;
 
 #[derive(Clone, Copy)]
 pub(crate) struct Figures {
@@ -19,39 +23,43 @@ pub(crate) struct Figures {
     columns: usize,
 }
 
-fn figures_with(number: u32, passes: usize, bits: usize, rows: usize, columns: usize) -> Figures
-    ensures { figures_in result ≡ figures_with number passes bits rows columns }
+// A refusal has its number alone.
+fn refused(refusal: Refusal) -> Figures
+    ensures { figures_in result ≡ figures (Err refusal) }
 {
     Figures {
-        number: number,
-        passes: passes,
-        bits: bits,
-        rows: rows,
-        columns: columns,
+        number: refusal.number(),
+        passes: 0,
+        bits: 0,
+        rows: 0,
+        columns: 0,
     }
 }
 
-// What is not given is zero: no rows and columns where it succeeded, and nothing where it is erased.
-fn report_figures(r: Report) -> Figures
-    ensures { figures_in result ≡ report_figures r }
+// What is not given is zero: no rows and columns where it succeeded.
+fn reported(report: Report) -> Figures
+    ensures { figures_in result ≡ figures (Ok report) }
 {
-    let ending = r.ending;
-    match ending {
-        Ending::Clean => figures_with(DONE, r.passes, r.bits, 0, 0),
-        Ending::Repaired => figures_with(DONE, r.passes, r.bits, 0, 0),
-        Ending::Stuck => figures_with(STUCK, r.passes, r.bits, r.rows, r.columns),
-        Ending::Spent => figures_with(SPENT, r.passes, r.bits, r.rows, r.columns),
-        Ending::Erased => figures_with(ERASED, 0, 0, 0, 0),
+    let (number, rows, columns) = match report.ending {
+        Ending::Clean | Ending::Repaired => (DONE, 0, 0),
+        Ending::Stuck => (STUCK, report.rows, report.columns),
+        Ending::Spent => (SPENT, report.rows, report.columns),
+    };
+    Figures {
+        number,
+        passes: report.passes,
+        bits: report.bits,
+        rows,
+        columns,
     }
 }
 
-// A refusal has its number alone.
-pub(crate) fn figures_of(d: Decoded) -> Figures
-    ensures { figures_in result ≡ figures d }
+pub(crate) fn figures_of(decoded: Result<Report, Refusal>) -> Figures
+    ensures { figures_in result ≡ figures decoded }
 {
-    match d {
-        Decoded::Refused(k) => figures_with(k, 0, 0, 0, 0),
-        Decoded::Ended(r) => report_figures(r),
+    match decoded {
+        Err(refusal) => refused(refusal),
+        Ok(report) => reported(report),
     }
 }
 

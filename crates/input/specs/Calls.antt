@@ -1,12 +1,11 @@
 -- Standard input, step by step. A read says nothing of the bytes that it gives; the piece has them then.
 use Rattle.std.specs.Prelude.{◌≡◌, ◌⊎◌, Bool, true, false, ◌&&◌, List, ℕ, ◌+◌, ◌-◌, ◌≤◌, leb, ltb, take, drop}
-use Rattle.rules.specs.Numbers.{pick}
 use Rattle.textrules.specs.Text.{Text}
 use Rattle.lines.specs.declared.state.State.{State}
-use Rattle.lines.specs.declared.state.Event.TheVariants.{Nothing}
 use Rattle.lines.specs.Stream.{at_start, event_at_end, keeping, Stop, stopped}
 use Rattle.input.specs.declared.Input.{Input}
 use Rattle.input.specs.declared.Step.{Step}
+use Rattle.input.specs.declared.Step.TheVariants.{More, Ended, Failed}
 
 -- the bytes of a read
 abbrev pub piece_bytes : ℕ
@@ -24,24 +23,17 @@ has_more i = ltb i.from i.to && leb i.to piece_bytes
 abbrev pub TakesLine : Text → Input → List ℕ → List ℕ → Step → List ℕ → Type 0
 TakesLine header i piece line r line-exit =
     let e : Stop = stopped header (keeping i.state line) (take (i.to - i.from) (drop i.from piece)) in
-    (keeping r.input.state line-exit ≡ e.kept)
-    × (r.event ≡ e.event)
-    × ((r.input.from ≡ i.from + e.taken) × (r.input.to ≡ i.to))
-    × ((r.more ≡ true) × (r.at_end ≡ false))
+    (r ≡ More (record { state = e.kept.state; from = i.from + e.taken; to = i.to }) e.event) × (line-exit ≡ e.kept.line)
 
 -- nothing more has come, at the end of the input or since a read failed
-abbrev pub Stops : Text → State → Bool → List ℕ → Step → List ℕ → Type 0
-Stops header s ended line r line-exit =
-    (keeping r.input.state line-exit ≡ keeping s line)
-    × (r.event ≡ pick ended (event_at_end header s line) Nothing)
-    × ((r.input.from ≡ 0) × (r.input.to ≡ 0))
-    × ((r.more ≡ false) × (r.at_end ≡ ended))
+abbrev pub Stops : Text → State → List ℕ → Step → List ℕ → Type 0
+Stops header s line r line-exit = ((r ≡ Ended (event_at_end header s line)) ⊎ (r ≡ Failed)) × (line-exit ≡ line)
 
 -- all that was read is taken: a read gives the first bytes of the piece, or none
 abbrev pub StepsAfterRead : Text → State → List ℕ → Step → List ℕ → List ℕ → Type 0
 StepsAfterRead header s line r piece-exit line-exit =
     ((to : ℕ) × (to ≤ piece_bytes) × TakesLine header (record { state = s; from = 0; to = to }) piece-exit line r line-exit)
-    ⊎ ((ended : Bool) × Stops header s ended line r line-exit)
+    ⊎ Stops header s line r line-exit
 
 -- a step, where something is left and where not
 abbrev pub StepsIf : Bool → Text → Input → List ℕ → List ℕ → Step → List ℕ → List ℕ → Type 0

@@ -4,7 +4,7 @@ use mathlib.Core.Path.{◌≡◌, refl, sym, ap, ap₂, ◌∙◌}
 use mathlib.Core.Bool.{Bool, true, false}
 use mathlib.Core.List.{List, [], ◌∷◌, ◌++◌}
 use Prim.Native.Nat.{ℕ, zero, suc, ◌+◌, ◌*◌, ◌-◌, ◌%◌, ◌^◌, ◌≤◌, ◌<◌}
-use native.Mathlib.Nat.{suc-mul, zero-mul, mul-le-mul_right}
+use native.Mathlib.Nat.{mul-le-mul_right}
 use native.Mathlib.Numerals.{add-one}
 use native.Mathlib.Omega.{arith}
 use borrow.Author.Tests.{lt-ltb, le-ltb}
@@ -22,6 +22,7 @@ use Rattle.rules.specs.Codes.{Code, g, small_code}
 use Rattle.rules.specs.Words.{with_parity, front_bits, remainder, checks}
 use Rattle.rules.specs.Bits.{bit_at}
 use Rattle.rules.proofs.Laws.Shape.{take-tab}
+use Rattle.rules.proofs.Laws.SmallCode.{sound_small}
 use Rattle.rules.proofs.Laws.CodeLaws.{Sound, shift_below}
 use Rattle.rules.proofs.Laws.CheckLaws.{ones_last}
 use Rattle.laws.specs.InPlace.{bits_at, word_at, Inside}
@@ -40,6 +41,10 @@ shift_stays r b h l = rw (bit_num b h, lt-ltb (2 * r + b) (2 ^ 16) l)
 pub shift_takes : (r b : ℕ) → b < 2 → remainders_end small_code ≤ 2 * r + b → bit_xor (2 * r + b) 94051 ≡ shift 16 g r (is_odd b)
 unfolding shift g poly ◌⊕◌
 shift_takes r b h l = rw (bit_num b h, le-ltb (2 * r + b) (2 ^ 16) l)
+
+-- and leaves a remainder
+pub shift_leaves : (r b : ℕ) → r < remainders_end small_code → b < 2 → remainders_end small_code ≤ 2 * r + b → bit_xor (2 * r + b) 94051 < remainders_end small_code
+shift_leaves r b s h l = rw (shift_takes r b h l) (shift_below small_code sound_small r (is_odd b) s)
 
 register_last : (d p r : ℕ) (w : Word) (b : Bool) → register d p r (w ++ b ∷ []) ≡ shift d p (register d p r w) b
 unfolding register
@@ -64,42 +69,38 @@ word_at_last j s start step = tab_last j (bits_at s start step)
 
 -- ---- the loop over the bits
 
--- after j bits: the remainder, the ones, and where the next bit stands
-abbrev pub Passed : Code → List ℕ → ℕ → ℕ → ℕ → ℕ → ℕ → ℕ → Type 0
-Passed code s start step j r o x =
-    (r ≡ register code.degree code.generator 0 (word_at j s start step))
-    × (r < remainders_end code)
-    × (o ≡ ones (word_at j s start step))
-    × (o ≤ j)
-    × (x ≡ start + j * step)
+-- after j bits: the remainder, and the ones
+pub record Passed (code : Code) (s : List ℕ) (start step j r o : ℕ) : Type 0 where
+  pub remains : r ≡ register code.degree code.generator 0 (word_at j s start step)
+  pub below : r < remainders_end code
+  pub counted : o ≡ ones (word_at j s start step)
+  pub few : o ≤ j
 
 module _ (code : Code) where
-  pub passed_none : (s : List ℕ) (start step : ℕ) → Passed code s start step 0 0 0 start
+  pub passed_none : {s : List ℕ} {start step : ℕ} → Passed code s start step 0 0 0
   unfolding register ones
-  passed_none s start step = (
-    ap (register code.degree code.generator 0) (sym (word_at-none s start step)),
-    pow_pos code.degree,
-    ap ones (sym (word_at-none s start step)),
-    omega arith,
-    omega (arith, zero-mul step),
-  )
+  passed_none {s} {start} {step} = record {
+    remains = ap (register code.degree code.generator 0) (sym (word_at-none s start step));
+    below = pow_pos code.degree;
+    counted = ap ones (sym (word_at-none s start step));
+    few = omega arith;
+  }
 
-  -- b is the bit at x, and r' the remainder with it behind
+  -- b is bit j, and r' the remainder with it behind
   pub passed_more :
-      Sound code → (s : List ℕ) (start step j r o x b r' : ℕ) → Passed code s start step j r o x → b ≡ num (bit_at s x)
-      → r' ≡ shift code.degree code.generator r (is_odd b) → Passed code s start step (j + 1) r' (o + b) (x + step)
-  passed_more ok s start step j r o x b r' (er, hr, eo, ho, ex) eb es =
-      let here : b ≡ num (bit_at s (start + j * step)) = rw ex at eb in
-      let odd : is_odd b ≡ bit_at s (start + j * step) = ap is_odd here ∙ odd_num (bit_at s (start + j * step)) in
-      rw (add-one j) (
-        es ∙ ap₂ (λ u v. shift code.degree code.generator u v) er odd
+      Sound code → {s : List ℕ} {start step j r o b r' : ℕ} → Passed code s start step j r o → b ≡ num (bit_at s (start + j * step))
+      → r' ≡ shift code.degree code.generator r (is_odd b) → Passed code s start step (j + 1) r' (o + b)
+  passed_more ok {s} {start} {step} {j} {r} {o} {b} {r'} p eb es =
+      let odd : is_odd b ≡ bit_at s (start + j * step) = ap is_odd eb ∙ odd_num (bit_at s (start + j * step)) in
+      rw (add-one j) (record {
+        remains = es ∙ ap₂ (λ u v. shift code.degree code.generator u v) p.remains odd
             ∙ sym (ap (register code.degree code.generator 0) (word_at_last j s start step)
-            ∙ register_last code.degree code.generator 0 (word_at j s start step) (bit_at s (start + j * step))),
-        rw es (shift_below code ok r (is_odd b) hr),
-        ap₂ ◌+◌ eo here ∙ sym (ap ones (word_at_last j s start step) ∙ ones_last (word_at j s start step) (bit_at s (start + j * step))),
-        omega (arith, num-le (bit_at s x)),
-        omega (arith, suc-mul j step),
-      )
+            ∙ register_last code.degree code.generator 0 (word_at j s start step) (bit_at s (start + j * step)));
+        below = rw es (shift_below code ok r (is_odd b) p.below);
+        counted = ap₂ ◌+◌ p.counted eb
+            ∙ sym (ap ones (word_at_last j s start step) ∙ ones_last (word_at j s start step) (bit_at s (start + j * step)));
+        few = omega (arith, p.few, num-le (bit_at s (start + j * step)));
+      })
     where
       odd_num : (c : Bool) → is_odd (num c) ≡ c
       odd_num true = refl
@@ -118,27 +119,16 @@ module _ (code : Code) where
 
 -- with the parity bit
 pub passed_all :
-    (n : ℕ) (s : List ℕ) (start step j r o x b : ℕ) → 1 ≤ n → n - 1 ≡ j → Passed small_code s start step j r o x
-    → b ≡ num (bit_at s x) → 2 * r + (o + b) % 2 ≡ checks small_code n (word_at n s start step)
-passed_all n s start step j r o x b h e (er, hr, eo, ho, ex) eb =
-    let here : b ≡ num (bit_at s (start + j * step)) = rw ex at eb in
+    {n : ℕ} {s : List ℕ} {start step j r o b : ℕ} → 1 ≤ n → j ≡ n - 1 → Passed small_code s start step j r o
+    → b ≡ num (bit_at s (start + j * step)) → 2 * r + (o + b) % 2 ≡ checks small_code n (word_at n s start step)
+passed_all {n} {s} {start} {step} {j} {r} {o} {b} h e p eb =
     let l : suc j ≡ n = omega arith in
     ap₂ (λ u v. 2 * u + v % 2)
-    (er ∙ ap (λ m. register 16 g 0 (word_at m s start step)) (sym e))
-    (ap₂ ◌+◌ eo here ∙ sym (ones_last (word_at j s start step) (bit_at s (start + j * step)))
+    (p.remains ∙ ap (λ m. register 16 g 0 (word_at m s start step)) e)
+    (ap₂ ◌+◌ p.counted eb ∙ sym (ones_last (word_at j s start step) (bit_at s (start + j * step)))
     ∙ ap ones (sym (word_at_last j s start step) ∙ ap (λ m. word_at m s start step) l))
     ∙ sym (checks_there small_code n s start step)
 
 -- the bit at place j lies within the buffer
 pub place_inside : (code : Code) (n : ℕ) (s : List ℕ) (start step j : ℕ) → Inside code n s start step → j ≤ n - 1 → start + j * step < length s * 8
 place_inside code n s start step j h l = omega (arith, h.4, mul-le-mul_right step l)
-
--- and so does where the loop stands, as long as a bit is left
-pub passed_inside :
-    (code : Code) (n : ℕ) (s : List ℕ) (start step j r o x : ℕ) → Inside code n s start step → Passed code s start step j r o x → j ≤ n - 1 → x < length s * 8
-passed_inside code n s start step j r o x h p l = omega (arith, p.4, place_inside code n s start step j h l)
-
-pub passed_next :
-    (code : Code) (n : ℕ) (s : List ℕ) (start step j r o x : ℕ) → Inside code n s start step → Passed code s start step j r o x → j < n - 1
-    → x + step < length s * 8
-passed_next code n s start step j r o x h p l = omega (arith, p.4, suc-mul j step, place_inside code n s start step (suc j) h l)

@@ -1,24 +1,27 @@
 -- Bytes of a frame's upper left corner, and when a square's bytes have no spare bit set.
 -- Assumes nothing.
 use mathlib.Core.Path.{◌≡◌, refl, sym, ap, ap₂, ◌∙◌}
+use mathlib.Core.Logic.{◌≢◌}
 use mathlib.Core.Bool.{Bool, true, false, ◌&&◌}
 use mathlib.Core.List.{List, []}
 use Prim.Native.Nat.{ℕ, zero, suc, ◌+◌, ◌*◌, ◌/◌, ◌%◌, ◌≤◌, ◌<◌}
 use native.Mathlib.Decide.{dec_lt}
-use native.Mathlib.Nat.{mul_assoc, mul-le-mul, mul-le-mul_right, div-lt_iff_lt-mul, mod-lt, suc-mul}
+use native.Mathlib.Nat.{mul_assoc, mul-le-mul, mul-le-mul_right, mod-lt, suc-mul}
 use native.Mathlib.Omega.{arith}
 use lib.Dec.{eqb, ltb}
 use lib.ListN.{length, get_or}
 use borrow.Author.Tests.{lt-ltb, le-ltb, eq-eqb, ne_eqb}
 use Rattle.algebra.specs.Tables.{tab, num}
 use Rattle.algebra.specs.Words.{Word, bit}
-use Rattle.algebra.proofs.TableLaws.{tab_at, tab-length, tab_ext}
+use Rattle.algebra.proofs.TableLaws.{tab_at, tab_past, tab-length, tab_ext}
 use Rattle.rules.specs.Codes.{Code, length_limit}
 use Rattle.rules.specs.Frames.{Frame, row, cell, corner}
 use Rattle.rules.specs.Bits.{row_bytes, stride, square_bytes, bit_at, word_of, frame_of, packed, byte_of, bytes_of, spare_ones}
 use Rattle.rules.proofs.Laws.Shape.{square_tab, Square, square_ext, corner_square, corner_cell, bit_past, bit_tab, row_tab, frame_of-cell, frame_of-square, word_of-length, word_of-bit}
 use Rattle.rules.proofs.Laws.PackLaws.{frame_of_bytes, bytes_of-length, bytes_of_frame, spares_of_bytes}
+use Rattle.std.specs.Bool.{MatchBool}
 use Rattle.laws.specs.InPlace.{most_bytes}
+use Rattle.laws.proofs.CopyLaws.{written_all}
 use Rattle.laws.specs.Turns.{cornered, Ready}
 
 -- ---- sizes, where w stands for the bytes of a row
@@ -81,7 +84,7 @@ module _ (m n k : ℕ) (s : List ℕ) (i : ℕ) where
   unfolding cornered
   row_cut h = row_tab k (λ i. cut k m (ltb i m) (λ j. cell (frame_of n s) i j)) i h
 
-  row_inside :
+  pub row_inside :
       m ≤ n → m ≤ k → i < m → (b : ℕ) → byte_of (row (cornered m k (frame_of n s)) i) b ≡ byte_of (word_of m s (i * row_bytes n * 8)) b
   row_inside hn hk hi b =
       byte_of_ext (row (cornered m k (frame_of n s)) i) (word_of m s (i * row_bytes n * 8)) b
@@ -98,39 +101,33 @@ module _ (m n k : ℕ) (s : List ℕ) (i : ℕ) where
           cut_out k m true (λ j. cell (frame_of n s) i j) j (omega (arith, l))
           ∙ sym (bit_past (word_of m s (i * row_bytes n * 8)) j (omega (arith, l, word_of-length m s (i * row_bytes n * 8))))
 
-  row_outside : m ≤ i → i < k → (b : ℕ) → byte_of (row (cornered m k (frame_of n s)) i) b ≡ 0
-  row_outside hm hk b =
-      byte_of_ext (row (cornered m k (frame_of n s)) i) [] b
-      (λ j. ap (λ (w : Word). bit w j) (row_cut hk ∙ rw (le-ltb i m hm)) ∙ cut-none k m (λ j. cell (frame_of n s) i j) j)
-      ∙ byte_of-none b
+  row_past : k ≤ i → row (cornered m k (frame_of n s)) i ≡ []
+  unfolding row cornered
+  row_past h = tab_past k (λ i. cut k m (ltb i m) (λ j. cell (frame_of n s) i j)) i [] h
 
--- a byte of row i, which is zero past the corner's rows
-abbrev pub CornerByte : ℕ → ℕ → List ℕ → ℕ → ℕ → ℕ → Type 0
-CornerByte m n s i b r = (i < m → r ≡ byte_of (word_of m s (i * row_bytes n * 8)) b) × (m ≤ i → r ≡ 0)
+  pub row_outside : m ≤ i → (b : ℕ) → byte_of (row (cornered m k (frame_of n s)) i) b ≡ 0
+  row_outside hm b = go (dec_lt i k)
+    where
+      go : Dec (i < k) → byte_of (row (cornered m k (frame_of n s)) i) b ≡ 0
+      go (yes hk) =
+          byte_of_ext (row (cornered m k (frame_of n s)) i) [] b
+          (λ j. ap (λ (w : Word). bit w j) (row_cut hk ∙ rw (le-ltb i m hm)) ∙ cut-none k m (λ j. cell (frame_of n s) i j) j)
+          ∙ byte_of-none b
+      go (no h) = ap (λ (w : Word). byte_of w b) (row_past (omega (arith, h))) ∙ byte_of-none b
+
+-- a byte of the corner's row i, as a row of any square that holds the corner
+pub corner_same :
+    (m n k : ℕ) (s : List ℕ) (i b : ℕ) → m ≤ n → m ≤ k
+    → byte_of (row (cornered m m (frame_of n s)) i) b ≡ byte_of (row (cornered m k (frame_of n s)) i) b
+corner_same m n k s i b hn hk = go (dec_lt i m)
+  where
+    go : Dec (i < m) → byte_of (row (cornered m m (frame_of n s)) i) b ≡ byte_of (row (cornered m k (frame_of n s)) i) b
+    go (yes h) = row_inside m n m s i hn (omega arith) h b ∙ sym (row_inside m n k s i hn hk h b)
+    go (no h) = row_outside m n m s i (omega (arith, h)) b ∙ sym (row_outside m n k s i (omega (arith, h)) b)
 
 -- byte p of a square of k rows is byte p % row_bytes k of row p / row_bytes k
-pub bytes_of_split : (k : ℕ) (f : Frame) (p : ℕ) → p < square_bytes k → get_or (bytes_of k f) p 0 ≡ byte_of (row f (p / row_bytes k)) (p % row_bytes k)
-unfolding bytes_of
-bytes_of_split k f p h = tab_at (square_bytes k) (λ b. byte_of (row f (b / row_bytes k)) (b % row_bytes k)) p 0 h
-
-pub row_below : (k p : ℕ) → 1 ≤ k → p < square_bytes k → (p / row_bytes k < k) × (p % row_bytes k < row_bytes k)
-row_below k p h l = let pos : 0 < row_bytes k = omega arith in ((div-lt_iff_lt-mul pos).1 l, mod-lt p pos)
-
--- w stands for the bytes of a row
-pub corner_at :
-    (m n k w : ℕ) (s : List ℕ) (p r : ℕ) → w ≡ row_bytes k → m ≤ n → m ≤ k → 1 ≤ k → p < square_bytes k
-    → CornerByte m n s (p / w) (p % w) r → r ≡ get_or (bytes_of k (cornered m k (frame_of n s))) p 0
-corner_at m n k w s p r e hn hk hp l c = go (dec_lt i m) (rw e at c) ∙ sym (bytes_of_split k (cornered m k (frame_of n s)) p l)
-  where
-    i : ℕ
-    i = p / row_bytes k
-
-    b : ℕ
-    b = p % row_bytes k
-
-    go : Dec (i < m) → CornerByte m n s i b r → r ≡ byte_of (row (cornered m k (frame_of n s)) i) b
-    go (yes h) c = c.0 h ∙ sym (row_inside m n k s i hn hk h b)
-    go (no h) c = let o : m ≤ i = omega (arith, h) in c.1 o ∙ sym (row_outside m n k s i o (row_below k p hp l).0 b)
+abbrev pub split_byte : ℕ → Frame → ℕ → ℕ
+split_byte k f p = byte_of (row f (p / row_bytes k)) (p % row_bytes k)
 
 -- the corner of a square as large as itself
 pub cornered_corner : (k : ℕ) (f : Frame) → cornered k k f ≡ corner k f
@@ -163,14 +160,20 @@ whole n s = bytes_of n (cornered n n (frame_of n s))
 whole_is : (n : ℕ) (s : List ℕ) → whole n s ≡ bytes_of n (frame_of n s)
 whole_is n s = ap (bytes_of n) (cornered_whole n (frame_of n s) (frame_of-square n s))
 
--- every byte is what its row's own bits make it: no spare bit is set
-pub packed_yes : (n : ℕ) (s : List ℕ) → s ≡ whole n s → true ≡ eqb (spare_ones n s) 0
-packed_yes n s e =
-    sym (eq-eqb (spare_ones n s) 0 (ap (spare_ones n) (e ∙ whole_is n s) ∙ spares_of_bytes n (frame_of n s) (frame_of-square n s)))
-
--- one is not: some spare bit is
-pub packed_no :
-    (n : ℕ) (s : List ℕ) (p r : ℕ) → length s ≡ square_bytes n → ((p : ℕ) → get_or s p 0 < 256) → r ≡ get_or (whole n s) p 0
-    → (r ≡ get_or s p 0 → ⊥) → false ≡ eqb (spare_ones n s) 0
-packed_no n s p r e b q h =
-    sym (ne_eqb (spare_ones n s) 0 (λ z. h (q ∙ ap (λ (l : List ℕ). get_or l p 0) (whole_is n s ∙ bytes_of_frame n s e b z))))
+-- no spare bit is set exactly if every byte is what its row's own bits make it
+pub packed_tells :
+    (n : ℕ) (s : List ℕ) (r : Bool) → length s ≡ square_bytes n → ((p : ℕ) → get_or s p 0 < 256)
+    → MatchBool r ((p : ℕ) → p < length s → get_or s p 0 ≡ split_byte n (cornered n n (frame_of n s)) p)
+    ((p : ℕ) × (p < length s) × (get_or s p 0 ≢ split_byte n (cornered n n (frame_of n s)) p))
+    → r ≡ eqb (spare_ones n s) 0
+unfolding bytes_of
+packed_tells n s true e b h =
+    let all : s ≡ whole n s = written_all (square_bytes n) (split_byte n (cornered n n (frame_of n s))) e (λ p l. h p (omega arith)) in
+    sym (eq-eqb (spare_ones n s) 0 (ap (spare_ones n) (all ∙ whole_is n s) ∙ spares_of_bytes n (frame_of n s) (frame_of-square n s)))
+packed_tells n s false e b (p, l, h) =
+    sym
+    (ne_eqb (spare_ones n s) 0
+    (λ z.
+    h
+    (sym (ap (λ (t : List ℕ). get_or t p 0) (whole_is n s ∙ bytes_of_frame n s e b z))
+    ∙ tab_at (square_bytes n) (split_byte n (cornered n n (frame_of n s))) p 0 (omega arith))))

@@ -1,6 +1,6 @@
 -- In how many bits two buffers differ, counted a byte at a time: by the ones in the bytes' exclusive or.
 -- Assumes nothing.
-use mathlib.Core.Path.{◌≡◌, refl, sym, ap, ap₂, ◌∙◌}
+use mathlib.Core.Path.{◌≡◌, sym, ap, ap₂, ◌∙◌}
 use mathlib.Core.Bool.{Bool, xor}
 use mathlib.Core.List.{List}
 use Prim.Native.Nat.{ℕ, zero, suc, ◌+◌, ◌*◌, ◌-◌, ◌/◌, ◌%◌, ◌^◌, ◌≤◌, ◌<◌}
@@ -8,16 +8,21 @@ use native.Mathlib.Nat.{div-one, mul_assoc, pow-suc}
 use native.Mathlib.Omega.{arith}
 use lib.Bits.{bit_xor}
 use lib.Count.{ones, ones_step, ones-le}
-use lib.ListN.{get_or}
+use lib.ListN.{length, get_or, take, drop}
+use Rattle.std.proofs.Common.{drop-cons}
+use Rattle.std.specs.List.{sum_by, zip}
+use Rattle.std.proofs.lemmas.List.Sums.{sum_by-cons}
+use native.Mathlib.Numerals.{add-one}
 use lib.Pow.{shr_lt, shr-shr}
 use Rattle.algebra.specs.Xor.{◌⊕◌}
 use Rattle.algebra.specs.Tables.{num, total}
 use Rattle.algebra.specs.Words.{bit, differ}
 use Rattle.algebra.specs.Remainder.{is_odd}
 use Rattle.algebra.proofs.Digits.{num_odd}
-use Rattle.algebra.proofs.TableLaws.{total-none, total_last, total_next, total_split, total_ext, count_total, count_most}
+use Rattle.algebra.proofs.TableLaws.{total-none, total_most, total_last, total_split, total_ext, count_total, count_most}
 use Rattle.algebra.proofs.XorLaws.{⊕-lt, ⊕-bit}
 use Rattle.algebra.proofs.WordLaws.{differ_bits}
+use Rattle.rules.specs.Codes.{length_limit}
 use Rattle.rules.specs.Frames.{row}
 use Rattle.rules.specs.Bits.{row_bytes, stride, bit_at, word_of, frame_of}
 use Rattle.rules.specs.Passes.{differences}
@@ -124,31 +129,42 @@ pub bytes_more :
 bytes_more s t at b m n found r e h l =
     ap₂ ◌+◌ e h ∙ sym (differ_more s t at b m) ∙ ap (λ (k : ℕ). differ_at k s t at) l
 
--- ---- the rows of two frames
+-- m whole bytes of both, zipped
+abbrev pub byte_ones : ℕ × ℕ → ℕ
+byte_ones p = ones (bit_xor p.0 p.1)
 
--- in how many bits the first k rows differ
-unfoldable pub differ_rows : ℕ → List ℕ → List ℕ → ℕ → ℕ
-differ_rows n s t k = total k (λ i. differ (row (frame_of n s) i) (row (frame_of n t) i))
+module _ (s t : List ℕ) (bs : (p : ℕ) → get_or s p 0 < 256) (bt : (p : ℕ) → get_or t p 0 < 256) where
+  first_ones : (at : ℕ) → byte_ones (get_or s at 0, get_or t at 0) ≡ differ_at 8 s t at
+  first_ones at = ap ones (sym (div-one (bit_xor (get_or s at 0) (get_or t at 0)))) ∙ (differ_shifted s t at 0 (omega arith) (bs at) (bt at)).0
 
-module _ (n : ℕ) (s t : List ℕ) where
-  abbrev in_row : ℕ → ℕ
-  in_row i = differ (row (frame_of n s) i) (row (frame_of n t) i)
+  pub bytes_zipped :
+      (m at : ℕ) → at + m ≤ length s → at + m ≤ length t
+      → sum_by byte_ones (zip (take m (drop at s)) (take m (drop at t))) ≡ differ_at (m * 8) s t at
+  bytes_zipped zero at hs ht = differ-none s t at
+  bytes_zipped (suc m) at hs ht =
+      let x : ℕ = get_or s at 0 in
+      let y : ℕ = get_or t at 0 in
+      let e : suc m * 8 ≡ 1 * 8 + m * 8 = omega arith in
+      let rest : sum_by byte_ones (zip (take m (drop (suc at) s)) (take m (drop (suc at) t))) ≡ differ_at (m * 8) s t (suc at) =
+      bytes_zipped m (suc at) (omega arith) (omega arith) in
+      ap₂ (λ (u v : List ℕ). sum_by byte_ones (zip (take (suc m) u) (take (suc m) v))) (drop-cons s at 0 (omega arith)) (drop-cons t at 0 (omega arith))
+      ∙ sum_by-cons byte_ones (x, y) (zip (take m (drop (suc at) s)) (take m (drop (suc at) t)))
+      ∙ ap₂ ◌+◌ (first_ones at) (rest ∙ ap (differ_at (m * 8) s t) (sym (add-one at)))
+      ∙ sym (differ_more s t at 1 (m * 8))
+      ∙ ap (λ (k : ℕ). differ_at k s t at) (sym e)
 
-  pub rows_none : 0 ≡ differ_rows n s t 0
-  unfolding differ_rows
-  rows_none = sym (total-none in_row)
+-- ---- the rows of two frames, where w stands for the bytes of one
 
-  -- row k begins at this byte
-  pub rows_more :
-      (k w r : ℕ) → k < n → w ≡ row_bytes n → r ≡ differ_at n s t (k * w) → differ_rows n s t k + r ≡ differ_rows n s t (k + 1)
-  unfolding differ_rows differ_at
-  rows_more k w r h ew er =
-      let e : k * w * 8 ≡ k * stride n = ap (λ (x : ℕ). k * x * 8) ew ∙ mul_assoc k (row_bytes n) 8 in
-      sym (total_next k in_row
-      ∙ ap (λ x. total k in_row + x)
-      (ap₂ differ (frame_of-row n s k h) (frame_of-row n t k h)
-      ∙ sym (er ∙ ap (λ (a : ℕ). differ (word_of n s a) (word_of n t a)) e)))
+pub rows_all :
+    (n w : ℕ) (s t : List ℕ) → w ≡ row_bytes n → total n (λ i. differ_at n s t (i * w)) ≡ differences n (frame_of n s) (frame_of n t)
+unfolding differences differ_at
+rows_all n w s t e =
+    total_ext n (λ i. differ_at n s t (i * w)) (λ i. differ (row (frame_of n s) i) (row (frame_of n t) i))
+    (λ i l.
+    let at : i * w * 8 ≡ i * stride n = ap (λ (x : ℕ). i * x * 8) e ∙ mul_assoc i (row_bytes n) 8 in
+    ap (λ (a : ℕ). differ (word_of n s a) (word_of n t a)) at
+    ∙ sym (ap₂ differ (frame_of-row n s i l) (frame_of-row n t i l)))
 
-  pub rows_all : differ_rows n s t n ≡ differences n (frame_of n s) (frame_of n t)
-  unfolding differ_rows differences
-  rows_all = refl
+pub rows_most : (n w : ℕ) (s t : List ℕ) → n ≤ length_limit → total n (λ i. differ_at n s t (i * w)) ≤ length_limit * n
+rows_most n w s t h =
+    total_most length_limit n (λ i. differ_at n s t (i * w)) (λ i l. omega (arith, differ_most s t (i * w) n))

@@ -3,73 +3,30 @@
 -- Assumes nothing.
 use mathlib.Core.Path.{◌≡◌, refl, sym, ap, ◌∙◌}
 use mathlib.Core.Logic.{◌≢◌}
-use mathlib.Core.Bool.{Bool, true, false}
+use mathlib.Core.Bool.{false}
 use mathlib.Core.List.{List, ◌++◌}
-use Prim.Native.Nat.{ℕ, suc, ◌≤◌, ◌<◌}
-use native.Mathlib.Omega.{arith}
-use borrow.Author.Tests.{le-leb, lt-leb, ltb-true, ltb-false}
-use lib.Dec.{ltb}
+use Prim.Native.Nat.{ℕ, ◌≤◌}
 use lib.ListN.{length, take, drop}
 use Rattle.rules.specs.Codes.{Code}
 use Rattle.rules.specs.Frames.{Frame, is_erased}
 use Rattle.rules.specs.Bits.{square_bytes, frame_of, bytes_of}
 use Rattle.rules.specs.Passes.{Outcome, decoded}
-use Rattle.rules.specs.Numbers.{RefusalList, first, told, handed_out, refused, erased, undecoded, most_allowed, outside, not_allowed, decode_refusals, decode_refusal, decode_said, decode_output}
+use Rattle.rules.specs.Numbers.{told, handed_out, undecoded, most_allowed, decode_refusal, decode_said, decode_output}
 use Rattle.rules.proofs.Laws.Shape.{frame_of-square}
 use Rattle.rules.proofs.Laws.PackLaws.{bytes_of-length, frame_of_bytes}
-use Rattle.rules.proofs.Laws.NumberLaws.{Sized, range_test, decode_accepts, decode_refused, decode_erased, at_zero}
+use Rattle.rules.proofs.Laws.NumberLaws.{Sized, decode_accepts, decode_refused, at_zero}
 use Rattle.laws.specs.Turns.{cornered}
-use Rattle.laws.proofs.RefusalLaws.{size_1, size_2, size_3, size_later}
 use Rattle.laws.proofs.CornerLaws.{cornered_whole}
 use Rattle.laws.proofs.CopyLaws.{copied_whole}
 
--- ---- the allowance
-
-pub allowed_low : (a : ℕ) → a < 1 → true ≡ not_allowed a
-allowed_low a h = rw (lt-leb 1 a h)
-
--- at least 1, so refused exactly if above the most allowed
-pub allowed_high : (a : ℕ) → 1 ≤ a → ltb most_allowed a ≡ not_allowed a
-allowed_high a h = go (ltb most_allowed a) refl
-  where
-    go : (b : Bool) → ltb most_allowed a ≡ b → b ≡ not_allowed a
-    go true e = let l = ltb-true most_allowed a e in rw (le-leb 1 a h, lt-leb a most_allowed l)
-    go false e = let l = ltb-false most_allowed a e in rw (le-leb 1 a h, le-leb a most_allowed l)
-
 -- ---- the checks
 
-module _ (code : Code) (n a : ℕ) (input output : List ℕ) where
-  -- the number is given, and the output untouched
-  abbrev pub Refused : ℕ → Type 0
-  Refused k = (decode_said code n a input output ≡ refused k) × (decode_output code n a input output ≡ output)
-
-  -- the checks after the sizes
-  abbrev later : RefusalList
-  later = drop 3 (decode_refusals code n a input output)
-
-  numbered :
-      (k : ℕ) → first (decode_refusals code n a input output) ≡ suc k
-      → (decode_said code n a input output ≡ undecoded (suc k)) × (decode_output code n a input output ≡ output)
-  unfolding decode_refusal
-  numbered k e =
-      let r = decode_refused code n a input output (λ z. absurd (omega arith)) in (r.0 ∙ ap undecoded e, r.1)
-
-  pub refused_1 : outside code n ≡ true → Refused 1
-  refused_1 h = numbered 0 (size_1 code n input (square_bytes n) output (square_bytes n) later h)
-
-  pub refused_2 : outside code n ≡ false → length input ≢ square_bytes n → Refused 2
-  refused_2 o h = numbered 1 (size_2 code n input (square_bytes n) output (square_bytes n) later o h)
-
-  pub refused_3 : outside code n ≡ false → length input ≡ square_bytes n → length output ≢ square_bytes n → Refused 3
-  refused_3 o i h = numbered 2 (size_3 code n input (square_bytes n) output (square_bytes n) later o i h)
-
-  pub refused_4 : Sized code n input (square_bytes n) output (square_bytes n) → not_allowed a ≡ true → Refused 4
-  refused_4 f h = numbered 3 (size_later code n input (square_bytes n) output (square_bytes n) later f ∙ rw h)
-
-  pub erased_10 :
-      Sized code n input (square_bytes n) output (square_bytes n) → not_allowed a ≡ false → is_erased n (frame_of n input) ≡ true
-      → (decode_said code n a input output ≡ erased) × (decode_output code n a input output ≡ output)
-  erased_10 f h e = decode_erased code n a input output f ((range_test 1 most_allowed a).0 h) e
+-- what was received stays unless it is decoded
+pub refused :
+    (code : Code) (n a : ℕ) (input output : List ℕ) (k : ℕ) → k ≢ 0 → k ≡ decode_refusal code n a input output
+    → (undecoded k ≡ decode_said code n a input output) × (output ≡ decode_output code n a input output)
+refused code n a input output k some e =
+    let r = decode_refused code n a input output (λ z. some (e ∙ z)) in (ap undecoded e ∙ sym r.0, sym r.1)
 
 -- ---- all are passed
 
@@ -87,11 +44,10 @@ pub record Accepted (code : Code) (n a : ℕ) (input output : List ℕ) : Type 0
   pub most : a ≤ most_allowed
   pub seen : is_erased n (frame_of n input) ≡ false
 
-pub accept :
-    (code : Code) (n a : ℕ) (input output : List ℕ) → Sized code n input (square_bytes n) output (square_bytes n) → not_allowed a ≡ false
-    → is_erased n (frame_of n input) ≡ false → Accepted code n a input output
-accept code n a input output f h e =
-    let m = (range_test 1 most_allowed a).0 h in record { sized = f; some = m.0; most = m.1; seen = e }
+pub accept : (code : Code) (n a : ℕ) (input output : List ℕ) → 0 ≡ decode_refusal code n a input output → Accepted code n a input output
+accept code n a input output z =
+    let f = (decode_accepts code n a input output).0 (sym z) in
+    record { sized = f.0; some = f.1.0; most = f.1.1; seen = f.2 }
 
 pub accepted :
     (code : Code) (n a : ℕ) (input output : List ℕ) → Accepted code n a input output

@@ -1,32 +1,31 @@
 -- A frame's words encoded in place, one after another; and the corner's k rows encoded so, then all columns, is encoding rows first.
 -- Assumes nothing.
 use mathlib.Core.Logic.{◌≢◌}
-use mathlib.Core.Path.{◌≡◌, refl, sym, ap, ap₂, ◌∙◌}
+use mathlib.Core.Path.{◌≡◌, refl, sym, ap, ◌∙◌}
 use mathlib.Core.Bool.{Bool, true, false, cond, ◌&&◌}
 use mathlib.Core.List.{List}
-use Prim.Native.Nat.{ℕ, suc, ◌+◌, ◌≤◌, ◌<◌}
+use Prim.Native.Nat.{ℕ, ◌+◌, ◌≤◌, ◌<◌}
 use native.Mathlib.Omega.{arith}
-use borrow.Author.Tests.{lt-ltb, eqb-true}
-use lib.Dec.{ltb, eqb}
-use lib.ListN.{length, take, drop}
+use borrow.Author.Tests.{lt-ltb}
+use lib.Dec.{ltb}
+use lib.ListN.{length, take}
 use lib.Seq.{length-take-le}
 use Rattle.algebra.specs.Tables.{tab}
 use Rattle.algebra.specs.Words.{Word, bit}
 use Rattle.algebra.proofs.TableLaws.{tab-length, tab_ext}
 use Rattle.rules.specs.Codes.{Code, data_bits}
 use Rattle.rules.specs.Words.{encode_word}
-use Rattle.rules.specs.Frames.{Frame, row, cell, transposed, is_erased, rows_first, Square}
-use Rattle.rules.specs.Bits.{square_bytes, frame_of, bytes_of, spare_ones}
-use Rattle.rules.specs.Numbers.{outside, RefusalList, first, data_bytes, frame_bytes, encode_refusals, frame_for, encode_number, encode_output}
+use Rattle.rules.specs.Frames.{Frame, row, cell, transposed, rows_first, Square}
+use Rattle.rules.specs.Bits.{square_bytes, frame_of, bytes_of}
+use Rattle.rules.specs.Numbers.{frame_for, encode_number, encode_output}
 use Rattle.rules.proofs.Laws.CodeLaws.{Sound}
 use Rattle.rules.proofs.Laws.Shape.{word_ext, bit_tab, take-tab, row_tab, transposed_row, frame_of-square}
 use Rattle.rules.proofs.Laws.PackLaws.{bytes_of-length, frame_of_bytes}
 use Rattle.rules.proofs.Laws.EncodeWordLaws.{encode-length}
-use Rattle.rules.proofs.Laws.NumberLaws.{Sized, encode_accepts, encode_refused, at_zero}
+use Rattle.rules.proofs.Laws.NumberLaws.{encode_refused, at_zero}
 use Rattle.laws.specs.InPlace.{word_at, put, Inside}
 use Rattle.laws.specs.Turns.{turned, start_of, step_of, partly, worked, completed, cornered, Whole, Ready}
 use Rattle.laws.proofs.CornerLaws.{cornered_square, ready}
-use Rattle.laws.proofs.RefusalLaws.{size_1, size_2, size_3, size_later}
 use Rattle.laws.proofs.TurnLaws.{Keeps, worked_square, worked-none, worked_later, word_inside, word_there, put_worked}
 
 pub completed_keeps : (code : Code) (ok : Sound code) (n : ℕ) → code.shortest ≤ n → Keeps n (completed code n)
@@ -35,28 +34,25 @@ completed_keeps code ok n h w e = encode-length code ok n (take (data_bits code 
 -- ---- the first words in a direction
 
 -- k of m words are encoded, and `by` is the step from bit to bit
-pub record Encoding (code : Code) (n : ℕ) (s₀ : List ℕ) (columns : Bool) (m by k : ℕ) (s : List ℕ) : Type 0 where
+pub record Encoding (code : Code) (n : ℕ) (s₀ : List ℕ) (columns : Bool) (m k : ℕ) (s : List ℕ) : Type 0 where
   pub turns : (k ≤ m) × (m ≤ n)
-  pub step : by ≡ step_of n columns
   pub whole : Whole code n s
   pub long : length s ≡ length s₀
   pub there : s ≡ bytes_of n (worked n columns (completed code n) k (frame_of n s₀))
 
 pub encoding_start :
-    (code : Code) (n : ℕ) (s₀ : List ℕ) (columns : Bool) (m by : ℕ) → Ready code n s₀ → m ≤ n → by ≡ step_of n columns
-    → Encoding code n s₀ columns m by 0 s₀
-encoding_start code n s₀ columns m by r h e =
+    (code : Code) (n : ℕ) (s₀ : List ℕ) (columns : Bool) (m : ℕ) → Ready code n s₀ → m ≤ n → Encoding code n s₀ columns m 0 s₀
+encoding_start code n s₀ columns m r h =
     record {
       turns = omega arith;
-      step = e;
       whole = r.0;
       long = refl;
       there = r.1 ∙ ap (bytes_of n) (sym (worked-none n columns (completed code n) (frame_of n s₀) (frame_of-square n s₀)));
     }
 
-module _ (code : Code) (ok : Sound code) {n : ℕ} {s₀ : List ℕ} {columns : Bool} {m by k : ℕ} {s : List ℕ} (c : Encoding code n s₀ columns m by k s) where
-  pub encoding_inside : {start : ℕ} → k < m → start ≡ start_of n columns k → Inside code n s start by
-  encoding_inside h e = rw (e, c.step) (word_inside code ok n s columns k c.whole (omega (arith, c.turns.1)))
+module _ (code : Code) (ok : Sound code) {n : ℕ} {s₀ : List ℕ} {columns : Bool} {m k : ℕ} {s : List ℕ} (c : Encoding code n s₀ columns m k s) where
+  pub encoding_inside : k < m → Inside code n s (start_of n columns k) (step_of n columns)
+  encoding_inside h = word_inside code ok n s columns k c.whole (omega (arith, c.turns.1))
 
   -- the word whose turn it is
   here : k < n → word_at n s (start_of n columns k) (step_of n columns) ≡ row (turned n columns (frame_of n s₀)) k
@@ -70,19 +66,19 @@ module _ (code : Code) (ok : Sound code) {n : ℕ} {s₀ : List ℕ} {columns : 
       ∙ worked_later n columns (completed code n) k k f r q (omega arith) h
 
   pub encoding_next :
-      {start : ℕ} {t : List ℕ} → k < m → start ≡ start_of n columns k
-      → t ≡ put n s start by (completed code n (word_at n s start by)) → Encoding code n s₀ columns m by (k + 1) t
-  encoding_next {start} {t} h e p =
+      {t : List ℕ} → k < m
+      → t ≡ put n s (start_of n columns k) (step_of n columns) (completed code n (word_at n s (start_of n columns k) (step_of n columns)))
+      → Encoding code n s₀ columns m (k + 1) t
+  encoding_next {t} h p =
       let hn : k < n = omega (arith, c.turns.1) in
       let f : Frame = frame_of n s₀ in
       let next : t ≡ bytes_of n (worked n columns (completed code n) (k + 1) f) =
-      p ∙ ap₂ (λ x y. put n s x y (completed code n (word_at n s x y))) e c.step
+      p
       ∙ ap (λ (w : Word). put n s (start_of n columns k) (step_of n columns) (completed code n w)) (here hn)
       ∙ put_worked code n s columns (completed code n) k f (completed_keeps code ok n c.whole.0) (frame_of-square n s₀) c.whole hn c.there in
       let l : length t ≡ square_bytes n = ap length next ∙ bytes_of-length n (worked n columns (completed code n) (k + 1) f) in
       record {
         turns = (omega arith, c.turns.1);
-        step = c.step;
         whole = (c.whole.0, c.whole.1, l);
         long = l ∙ sym c.whole.2 ∙ c.long;
         there = next;
@@ -175,36 +171,10 @@ abbrev pub EncodedAs : Code → ℕ → List ℕ → List ℕ → ℕ → List �
 EncodedAs code n input output r t = (r ≡ encode_number code n input output) × (t ≡ encode_output code n input output)
 
 module _ (code : Code) (n : ℕ) (input output : List ℕ) where
-  -- the checks after the sizes
-  abbrev later : RefusalList
-  later = drop 3 (encode_refusals code n input output)
+  pub encode_refuses : (k : ℕ) → k ≢ 0 → k ≡ encode_number code n input output → EncodedAs code n input output k output
+  encode_refuses k some e = (e, sym (encode_refused code n input output (λ z. some (e ∙ z))))
 
-  refuses : (r : ℕ) → first (encode_refusals code n input output) ≡ suc r → EncodedAs code n input output (suc r) output
-  unfolding encode_number
-  refuses r e = (sym e, sym (encode_refused code n input output (λ z. omega arith)))
-
-  pub answer_1 : outside code n ≡ true → EncodedAs code n input output 1 output
-  answer_1 h = refuses 0 (size_1 code n input (data_bytes code n) output (frame_bytes n) later h)
-
-  pub answer_2 : outside code n ≡ false → length input ≢ data_bytes code n → EncodedAs code n input output 2 output
-  answer_2 o h = refuses 1 (size_2 code n input (data_bytes code n) output (frame_bytes n) later o h)
-
-  pub answer_3 : outside code n ≡ false → length input ≡ data_bytes code n → length output ≢ frame_bytes n → EncodedAs code n input output 3 output
-  answer_3 o i h = refuses 2 (size_3 code n input (data_bytes code n) output (frame_bytes n) later o i h)
-
-  pub answer_5 : Sized code n input (data_bytes code n) output (frame_bytes n) → eqb (spare_ones (data_bits code n) input) 0 ≡ false → EncodedAs code n input output 5 output
-  answer_5 f h = refuses 4 (size_later code n input (data_bytes code n) output (frame_bytes n) later f ∙ rw h)
-
-  pub answer_10 :
-      Sized code n input (data_bytes code n) output (frame_bytes n) → eqb (spare_ones (data_bits code n) input) 0 ≡ true
-      → is_erased n (frame_for code n input) ≡ true → EncodedAs code n input output 10 output
-  answer_10 f h e = refuses 9 (size_later code n input (data_bytes code n) output (frame_bytes n) later f ∙ rw (h, e))
-
-  pub answer_0 :
-      {t : List ℕ} → Sized code n input (data_bytes code n) output (frame_bytes n) → eqb (spare_ones (data_bits code n) input) 0 ≡ true
-      → is_erased n (frame_for code n input) ≡ false → t ≡ bytes_of n (frame_for code n input) → EncodedAs code n input output 0 t
+  pub encode_takes :
+      {t : List ℕ} → 0 ≡ encode_number code n input output → t ≡ bytes_of n (frame_for code n input) → EncodedAs code n input output 0 t
   unfolding encode_output
-  answer_0 f h s e =
-      let z : encode_number code n input output ≡ 0 =
-      (encode_accepts code n input output).1 (f, eqb-true (spare_ones (data_bits code n) input) 0 h, s) in
-      (sym z, e ∙ sym (at_zero (encode_number code n input output) (bytes_of n (frame_for code n input)) output z))
+  encode_takes z e = (z, e ∙ sym (at_zero (encode_number code n input output) (bytes_of n (frame_for code n input)) output (sym z)))

@@ -4,9 +4,10 @@ use mathlib.Core.Path.{◌≡◌, refl, sym, ap, ◌∙◌}
 use mathlib.Core.Logic.{◌≢◌}
 use mathlib.Core.Bool.{Bool, true, false}
 use mathlib.Core.List.{List}
-use Prim.Native.Nat.{ℕ, ◌+◌, ◌*◌, ◌≤◌, ◌<◌}
+use Prim.Native.Nat.{ℕ, ◌+◌, ◌*◌, ◌≤◌}
+use native.Mathlib.Omega.{arith}
 use Rattle.algebra.specs.Tables.{num, all_below}
-use Rattle.algebra.proofs.TableLaws.{num-zero, below_none, below_next, below_fails, below_ext}
+use Rattle.algebra.proofs.TableLaws.{below_ext}
 use Rattle.rules.specs.Codes.{small_code, data_bits}
 use Rattle.rules.specs.Frames.{cell, is_erased}
 use Rattle.rules.specs.Bits.{stride, bit_at, frame_of}
@@ -17,54 +18,25 @@ use Rattle.rules.proofs.Promises.Erased.{small_ones}
 use Rattle.rules.proofs.Promises.Promised.{promised_small}
 use Rattle.laws.specs.InPlace.{ones_at}
 
--- ---- bits
+-- ---- a bit's number
 
-module _ (s : List ℕ) (start : ℕ) where
-  pub bits_none : true ≡ ones_at 0 s start
-  unfolding ones_at
-  bits_none = below_none (λ j. bit_at s (start + j))
+pub num-one : {b : Bool} → num b ≡ 1 → b ≡ true
+num-one {b = true} e = refl
+num-one {b = false} e = absurd (omega arith)
 
-  -- b is bit j
-  pub bits_next : (j b : ℕ) → true ≡ ones_at j s start → b ≡ num (bit_at s (start + j)) → b ≢ 0 → true ≡ ones_at (j + 1) s start
-  unfolding ones_at
-  bits_next j b h e k = below_next j (λ j. bit_at s (start + j)) h (go (bit_at s (start + j)) e)
-    where
-      go : (x : Bool) → b ≡ num x → x ≡ true
-      go true q = refl
-      go false q = absurd (k q)
+pub num-not_one : {b : Bool} → num b ≢ 1 → b ≡ false
+num-not_one {b = true} e = absurd (e refl)
+num-not_one {b = false} e = refl
 
-  pub bits_end : (n j b : ℕ) → j < n → b ≡ num (bit_at s (start + j)) → b ≡ 0 → false ≡ ones_at n s start
-  unfolding ones_at
-  bits_end n j b l e z = below_fails n (λ j. bit_at s (start + j)) j l (num-zero (sym e ∙ z))
+-- ---- rows, where w stands for the bits of one
 
--- ---- rows
-
--- the first k rows of n bits are ones
-unfoldable pub ones_rows : ℕ → List ℕ → ℕ → Bool
-ones_rows n s k = all_below k (λ i. ones_at n s (i * stride n))
-
-module _ (n : ℕ) (s : List ℕ) where
-  pub rows_none : true ≡ ones_rows n s 0
-  unfolding ones_rows
-  rows_none = below_none (λ i. ones_at n s (i * stride n))
-
-  -- w stands for the bits of a row, and r for what is said of row k
-  pub rows_next : (k w : ℕ) (r : Bool) → true ≡ ones_rows n s k → w ≡ stride n → r ≡ ones_at n s (k * w) → r ≡ true → true ≡ ones_rows n s (k + 1)
-  unfolding ones_rows
-  rows_next k w r h ew er t =
-      below_next k (λ i. ones_at n s (i * stride n)) h (ap (λ (x : ℕ). ones_at n s (k * x)) (sym ew) ∙ sym er ∙ t)
-
-  pub rows_all : ones_rows n s n ≡ is_erased n (frame_of n s)
-  unfolding ones_rows ones_at is_erased
-  rows_all =
-      below_ext n (λ i. all_below n (λ j. bit_at s (i * stride n + j))) (λ i. all_below n (λ j. cell (frame_of n s) i j))
-      (λ i l.
-      below_ext n (λ j. bit_at s (i * stride n + j)) (λ j. cell (frame_of n s) i j) (λ j m. sym (frame_of-cell n s i j l m)))
-
-  pub rows_end : (k w : ℕ) (r : Bool) → k < n → w ≡ stride n → r ≡ ones_at n s (k * w) → r ≡ false → false ≡ is_erased n (frame_of n s)
-  unfolding ones_rows
-  rows_end k w r l ew er t =
-      below_fails n (λ i. ones_at n s (i * stride n)) k l (ap (λ (x : ℕ). ones_at n s (k * x)) (sym ew) ∙ sym er ∙ t) ∙ rows_all
+pub rows_all : (n w : ℕ) (s : List ℕ) → w ≡ stride n → all_below n (λ i. ones_at n s (i * w)) ≡ is_erased n (frame_of n s)
+unfolding ones_at is_erased
+rows_all n w s e =
+    below_ext n (λ i. all_below n (λ j. bit_at s (i * w + j))) (λ i. all_below n (λ j. cell (frame_of n s) i j))
+    (λ i l.
+    below_ext n (λ j. bit_at s (i * w + j)) (λ j. cell (frame_of n s) i j)
+    (λ j m. ap (λ (x : ℕ). bit_at s (i * x + j)) e ∙ sym (frame_of-cell n s i j l m)))
 
 -- ---- the small code's data
 

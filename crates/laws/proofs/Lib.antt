@@ -3,6 +3,7 @@
 pub mod InPlaceLaws
 pub mod ByteLaws
 pub mod CopyLaws
+pub mod ChainLaws
 pub mod CheckLoopLaws
 pub mod MendLaws
 pub mod WordBytesLaws

@@ -30,9 +30,9 @@ zp = z_power small_marking
 -- ---- the answer to checks c
 
 module _ (n : ℕ) (h : 18 ≤ n) (b : n ≤ 256) (c : ℕ) where
-  pub located-none : c ≡ 0 → located small_code n c ≡ some []
+  pub located_zero : c ≡ 0 → located small_code n c ≡ some []
   unfolding xsum
-  located-none q = places_located small_code mends_small n h b c [] tt (omega arith) (sym q)
+  located_zero q = places_located small_code mends_small n h b c [] tt (omega arith) (sym q)
 
   one_located : (p : ℕ) → p < n → xsum (place_value small_code n) (p ∷ []) ≡ c → located small_code n c ≡ some (p ∷ [])
   one_located p l q = places_located small_code mends_small n h b c (p ∷ []) (omega arith, l, tt) (omega arith) q
@@ -88,30 +88,32 @@ module _ (n : ℕ) (h : 18 ≤ n) (b : n ≤ 256) (c : ℕ) where
         k e f o l (mark ∙ (two_marked small_marking fit256 (c / 2) e f (omega arith) (omega arith) (omega arith)).1 q)
 
     module _ (e : ℕ) (lone : Lone small_marking (n - 1) w e) where
-      -- odd: one place, or more than two
-      pub odd_one : c % 2 ≡ 1 → e < n - 1 → located small_code n c ≡ some ((n - 2 - e) ∷ [])
-      odd_one o l =
-          let k = place_of e l (lone.found l) in
+      -- odd: one place
+      pub odd_one : c % 2 ≡ 1 → located small_code n c ≡ some ((n - 2 - e) ∷ [])
+      odd_one o =
+          let k = place_of e lone.below lone.found in
           one_located (n - 2 - e) (omega arith) (front-sum n (n - 2 - e) e (omega arith) ∙ omega (arith, k))
 
-      pub odd_beyond : c % 2 ≡ 1 → n - 1 ≤ e → located small_code n c ≡ none
-      odd_beyond o l = located_beyond front (no_place (lone.none l)) (λ z. absurd (omega arith))
-
-      -- even: the last and one other, two others, or more than two
-      pub even_one : c % 2 ≡ 0 → e < n - 1 → located small_code n c ≡ some ((n - 2 - e) ∷ (n - 1) ∷ [])
-      even_one o l =
-          let k = place_of e l (lone.found l) in
+      -- even: the last and one other
+      pub even_one : c % 2 ≡ 0 → located small_code n c ≡ some ((n - 2 - e) ∷ (n - 1) ∷ [])
+      even_one o =
+          let k = place_of e lone.below lone.found in
           two_located (n - 2 - e) (n - 1) (omega arith) (omega arith)
           (with_last_sum n (n - 2 - e) (n - 1) e (omega arith) (omega arith) ∙ omega (arith, k))
 
-      module _ (high low : ℕ) (pair : Pair small_marking (n - 1) w high low) where
-        pub even_two : c % 2 ≡ 0 → high < n - 1 → located small_code n c ≡ some ((n - 2 - high) ∷ (n - 2 - low) ∷ [])
-        even_two o l =
-            let t = pair.found l in
-            let k : c / 2 ≡ zp high ⊕ zp low =
-            (two_marked small_marking fit256 (c / 2) high low (omega arith) (omega arith) (omega (arith, t.0))).0 (sym mark ∙ t.1) in
-            two_located (n - 2 - high) (n - 2 - low) (omega (arith, t.0)) (omega arith)
-            (fronts_sum n (n - 2 - high) (n - 2 - low) high low (omega arith) (omega (arith, t.0)) ∙ omega (arith, k))
+    -- even: two others
+    pub even_two :
+        (high low : ℕ) → Pair small_marking (n - 1) w high low → c % 2 ≡ 0
+        → located small_code n c ≡ some ((n - 2 - high) ∷ (n - 2 - low) ∷ [])
+    even_two high low pair o =
+        let k : c / 2 ≡ zp high ⊕ zp low =
+        (two_marked small_marking fit256 (c / 2) high low (omega arith) (omega arith) (omega arith)).0 (sym mark ∙ pair.found) in
+        two_located (n - 2 - high) (n - 2 - low) (omega arith) (omega arith)
+        (fronts_sum n (n - 2 - high) (n - 2 - low) high low (omega arith) (omega arith) ∙ omega (arith, k))
 
-        pub even_beyond : c % 2 ≡ 0 → n - 1 ≤ e → n - 1 ≤ high → located small_code n c ≡ none
-        even_beyond o l l' = located_beyond front (no_place (lone.none l)) (λ z. no_two (pair.none l'))
+    -- more than two
+    pub odd_beyond : NoLone small_marking (n - 1) w → c % 2 ≡ 1 → located small_code n c ≡ none
+    odd_beyond k o = located_beyond front (no_place k) (λ z. absurd (omega arith))
+
+    pub even_beyond : NoLone small_marking (n - 1) w → NoPair small_marking (n - 1) w → located small_code n c ≡ none
+    even_beyond k l = located_beyond front (no_place k) (λ z. no_two l)

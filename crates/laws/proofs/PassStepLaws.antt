@@ -7,11 +7,12 @@ use mathlib.Core.List.{List}
 use Prim.Native.Nat.{ℕ, suc, ◌+◌, ◌*◌, ◌-◌, ◌≤◌, ◌<◌}
 use native.Mathlib.Omega.{arith}
 use borrow.Author.Tests.{eq-eqb, ne_eqb}
+use lib.Dec.{eqb}
 use lib.ListN.{length}
-use Rattle.algebra.specs.Tables.{num, count, total}
+use Rattle.algebra.specs.Tables.{count, total}
 use Rattle.algebra.specs.Words.{differ}
 use Rattle.algebra.specs.Remainder.{is_odd}
-use Rattle.algebra.proofs.TableLaws.{total-none, total_next, count_total}
+use Rattle.algebra.proofs.TableLaws.{total-none, total_next, count_most}
 use Rattle.rules.specs.Codes.{Code, radius_limit}
 use Rattle.rules.specs.Words.{checks, is_codeword, answer, places, mend}
 use Rattle.rules.specs.Frames.{Frame, row, bad_rows, bad_columns, is_frame, Square}
@@ -21,71 +22,43 @@ use Rattle.rules.proofs.Laws.CodeLaws.{Sound}
 use Rattle.rules.proofs.Laws.Shape.{frame_of-square}
 use Rattle.rules.proofs.Laws.PackLaws.{bytes_of-length, frame_of_bytes}
 use Rattle.rules.proofs.Laws.PassLaws.{decoded_clean, decoded_passes, step_repaired, step_stuck, step_on, step_spent}
-use Rattle.laws.specs.InPlace.{word_at, put, Inside}
+use Rattle.laws.specs.InPlace.{word_at, put}
 use Rattle.laws.specs.Turns.{turned, start_of, step_of, worked, Whole, Ready}
-use Rattle.laws.proofs.TurnLaws.{frame_counted, turned_square, word_inside, word_there, worked-none, worked_later, worked_square, put_worked}
+use Rattle.laws.proofs.TurnLaws.{frame_counted, turned_square, word_there, worked-none, worked_later, worked_square, put_worked}
 use Rattle.rules.proofs.Laws.FlipLaws.{flips_of}
 use Rattle.rules.proofs.Promises.CountBounds.{mend_flips}
 use Rattle.laws.proofs.PassLoopLaws.{mend_keeps, pass_worked, pass_flips}
 
--- ---- words that are not codewords, counted
+-- ---- words in place
 
--- among the first k rows
-unfoldable pub bad_first : Code → ℕ → Frame → ℕ → ℕ
-bad_first code n g k = count k (λ i. not (is_codeword code n (row g i)))
+-- those that are not codewords, counted
+pub bad_counted : (code : Code) (n : ℕ) (g : Frame) → count n (λ i. not (is_codeword code n (row g i))) ≡ bad_rows code n g
+unfolding bad_rows
+bad_counted code n g = refl
 
-count_last : (k : ℕ) (p : ℕ → Bool) → count (k + 1) p ≡ count k p + num (p k)
-count_last k p =
-    count_total (k + 1) p
-    ∙ total_next k (λ i. num (p i))
-    ∙ ap (λ m. m + num (p k)) (sym (count_total k p))
+pub bad_most : (code : Code) (n : ℕ) (g : Frame) → bad_rows code n g ≤ n
+unfolding bad_rows
+bad_most code n g = count_most n (λ i. not (is_codeword code n (row g i)))
 
-pub bad-none : (code : Code) (n : ℕ) (g : Frame) → 0 ≡ bad_first code n g 0
-unfolding bad_first
-bad-none code n g = sym (count_total 0 (λ i. not (is_codeword code n (row g i))) ∙ total-none (λ i. num (not (is_codeword code n (row g i)))))
+module _ (code : Code) (n : ℕ) (s : List ℕ) (columns : Bool) (k : ℕ) (h : k < n) where
+  pub codeword_there :
+      eqb (checks code n (word_at n s (start_of n columns k) (step_of n columns))) 0
+      ≡ is_codeword code n (row (turned n columns (frame_of n s)) k)
+  unfolding is_codeword
+  codeword_there = ap (λ w. eqb (checks code n w) 0) (word_there n s columns k h)
 
-pub bad_all : (code : Code) (n : ℕ) (g : Frame) → bad_first code n g n ≡ bad_rows code n g
-unfolding bad_first bad_rows
-bad_all code n g = refl
+  pub put_there :
+      put n s (start_of n columns k) (step_of n columns) (mend code n (word_at n s (start_of n columns k) (step_of n columns)))
+      ≡ put n s (start_of n columns k) (step_of n columns) (mend code n (row (turned n columns (frame_of n s)) k))
+  put_there = ap (λ w. put n s (start_of n columns k) (step_of n columns) (mend code n w)) (word_there n s columns k h)
 
-module _ (code : Code) (n : ℕ) (g : Frame) (k x : ℕ) (e : x ≡ checks code n (row g k)) where
-  pub bad_more : x ≢ 0 → bad_first code n g (k + 1) ≡ bad_first code n g k + 1
-  unfolding bad_first is_codeword
-  bad_more h =
-      count_last k (λ i. not (is_codeword code n (row g i)))
-      ∙ ap (λ b. count k (λ i. not (is_codeword code n (row g i))) + num (not b)) (ne_eqb (checks code n (row g k)) 0 (λ q. h (e ∙ q)))
-
-  pub bad_same : x ≡ 0 → bad_first code n g (k + 1) ≡ bad_first code n g k
-  unfolding bad_first is_codeword
-  bad_same h =
-      let q = ap (λ b. num (not b)) (eq-eqb (checks code n (row g k)) 0 (sym e ∙ h)) in
-      omega (arith, count_last k (λ i. not (is_codeword code n (row g i))))
-
--- ---- a word in place, by where the program says that it starts and its step
-
-module _ (code : Code) (n : ℕ) (s : List ℕ) (columns : Bool) (k a d : ℕ) (ha : a ≡ start_of n columns k) (hd : d ≡ step_of n columns) (h : k < n) where
-  pub inside_here : Sound code → Whole code n s → Inside code n s a d
-  inside_here ok w = rw (ha, hd) (word_inside code ok n s columns k w h)
-
-  pub there_here : word_at n s a d ≡ row (turned n columns (frame_of n s)) k
-  there_here = ap₂ (word_at n s) ha hd ∙ word_there n s columns k h
-
-  pub checks_here : (x : ℕ) → x ≡ checks code n (word_at n s a d) → x ≡ checks code n (row (turned n columns (frame_of n s)) k)
-  checks_here x e = e ∙ ap (checks code n) there_here
-
-  -- put in place, as the program says where
-  pub put_here :
-      (t : List ℕ) → t ≡ put n s a d (mend code n (word_at n s a d))
-      → t ≡ put n s (start_of n columns k) (step_of n columns) (mend code n (row (turned n columns (frame_of n s)) k))
-  put_here t e = e ∙ ap (λ w. put n s a d (mend code n w)) there_here ∙ rw (ha, hd)
-
-  pub flips_here :
-      Sound code → (x : ℕ) → Whole code n s → x ≡ length (places (answer code n (word_at n s a d)))
+  pub flips_there :
+      Sound code → (x : ℕ) → Whole code n s → x ≡ length (places (answer code n (word_at n s (start_of n columns k) (step_of n columns))))
       → (x ≡ flips_of code n (turned n columns (frame_of n s)) k) × (x ≤ radius_limit)
-  flips_here ok x w e =
+  flips_there ok x w e =
       let g : Frame = turned n columns (frame_of n s) in
       let m = mend_flips code ok n w.0 (row g k) ((turned_square n columns (frame_of n s) (frame_of-square n s)).1 k h) in
-      let q : x ≡ length (places (answer code n (row g k))) = e ∙ ap (λ u. length (places (answer code n u))) there_here in
+      let q : x ≡ length (places (answer code n (row g k))) = e ∙ ap (λ u. length (places (answer code n u))) (word_there n s columns k h) in
       (q ∙ sym m.0, omega (arith, m.1, ok.not_wide))
 
 -- ---- the words of a pass, mended one after another

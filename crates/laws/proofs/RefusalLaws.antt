@@ -1,17 +1,41 @@
 -- The checks that every entry point begins with, in the program's order: the number that each gives where it applies.
 -- Assumes nothing.
-use mathlib.Core.Path.{◌≡◌}
+use mathlib.Core.Path.{◌≡◌, refl, ◌∙◌}
 use mathlib.Core.Logic.{◌≢◌}
 use mathlib.Core.Bool.{true, false}
-use mathlib.Core.List.{List}
-use Prim.Native.Nat.{ℕ, ◌≤◌}
+use mathlib.Core.List.{List, [], ◌∷◌, ◌++◌}
+use Prim.Native.Nat.{ℕ, zero, suc, ◌≤◌}
 use native.Mathlib.Omega.{arith}
-use lib.ListN.{length}
-use borrow.Author.Tests.{eq-eqb, ne_eqb}
+use lib.ListN.{length, take, drop}
 use Rattle.rules.specs.Codes.{Code, length_limit}
-use Rattle.rules.specs.Numbers.{outside, RefusalList, first, size_refusals}
+use Rattle.rules.specs.Numbers.{outside, not_long, RefusalList, first, size_refusals}
 use Rattle.rules.proofs.Laws.CodeLaws.{Sound}
 use Rattle.rules.proofs.Laws.NumberLaws.{Sized, range_test}
+
+-- ---- The first i of some checks
+
+-- one of them is met: its number stays, whatever comes after
+pub first_met : (checks : RefusalList) (i k : ℕ) → k ≢ 0 → k ≡ first (take i checks) → k ≡ first checks
+first_met [] zero k some e = e
+first_met [] (suc i) k some e = e
+first_met (check ∷ checks) zero k some e = absurd (some e)
+first_met ((true, j) ∷ checks) (suc i) k some e = e
+first_met ((false, j) ∷ checks) (suc i) k some e = first_met checks i k some e
+
+-- no check gives the number 0
+abbrev pub Numbered : RefusalList → Type 0
+Numbered [] = Unit {0}
+Numbered (check ∷ later) = (1 ≤ check.1) × Numbered later
+
+-- none of them is met: those after them decide
+pub first_passed : (checks : RefusalList) (i : ℕ) → Numbered (take i checks) → 0 ≡ first (take i checks) → first (drop i checks) ≡ first checks
+first_passed [] zero n e = refl
+first_passed [] (suc i) n e = refl
+first_passed (check ∷ checks) zero n e = refl
+first_passed ((true, j) ∷ checks) (suc i) n e = absurd (omega (arith, n.0, e))
+first_passed ((false, j) ∷ checks) (suc i) n e = first_passed checks i n.1 e
+
+-- ---- The checks of sizes
 
 pub inside : (code : Code) (n : ℕ) → outside code n ≡ false → (code.shortest ≤ n) × (n ≤ code.longest)
 inside code n h = (range_test code.shortest code.longest n).0 h
@@ -25,17 +49,24 @@ module _ (code : Code) (n : ℕ) (input : List ℕ) (takes : ℕ) (output : List
   pub sized : outside code n ≡ false → length input ≡ takes → length output ≡ gives → Sized code n input takes output gives
   sized h a b = let i = inside code n h in record { from = i.0; up_to = i.1; taken = a; lent = b }
 
+  -- what is checked of n alone, and of the two lengths
+  abbrev pub of_n : RefusalList
+  of_n = (outside code n, 1) ∷ []
+
+  abbrev pub of_lengths : RefusalList
+  of_lengths = (not_long input takes, 2) ∷ (not_long output gives, 3) ∷ []
+
   module _ (later : RefusalList) where
-    pub size_1 : outside code n ≡ true → first (size_refusals code n input takes output gives later) ≡ 1
-    size_1 h = rw h
+    pub n_met : (k : ℕ) → k ≢ 0 → k ≡ first of_n → k ≡ first (size_refusals code n input takes output gives later)
+    n_met = first_met (size_refusals code n input takes output gives later) 1
 
-    pub size_2 : outside code n ≡ false → length input ≢ takes → first (size_refusals code n input takes output gives later) ≡ 2
-    size_2 h a = rw (h, ne_eqb (length input) takes a)
+    module _ (of_n_passed : 0 ≡ first of_n) where
+      pub lengths_met : (k : ℕ) → k ≢ 0 → k ≡ first of_lengths → k ≡ first (size_refusals code n input takes output gives later)
+      lengths_met k some e =
+          first_met (of_lengths ++ later) 2 k some e
+          ∙ first_passed (size_refusals code n input takes output gives later) 1 (omega arith, tt) of_n_passed
 
-    pub size_3 :
-        outside code n ≡ false → length input ≡ takes → length output ≢ gives → first (size_refusals code n input takes output gives later) ≡ 3
-    size_3 h a b = rw (h, eq-eqb (length input) takes a, ne_eqb (length output) gives b)
-
-    pub size_later : Sized code n input takes output gives → first (size_refusals code n input takes output gives later) ≡ first later
-    size_later f =
-        rw ((range_test code.shortest code.longest n).1 (f.from, f.up_to), eq-eqb (length input) takes f.taken, eq-eqb (length output) gives f.lent)
+      pub sizes_passed : 0 ≡ first of_lengths → first later ≡ first (size_refusals code n input takes output gives later)
+      sizes_passed e =
+          first_passed (of_lengths ++ later) 2 (omega arith, (omega arith, tt)) e
+          ∙ first_passed (size_refusals code n input takes output gives later) 1 (omega arith, tt) of_n_passed

@@ -9,7 +9,7 @@ use native.Mathlib.Nat.{pow-suc, mul-lt-mul_of_pos_right, add-zero}
 use native.Mathlib.Omega.{arith}
 use lib.ListN.{length, take, drop, replicate, length-replicate, get_or-replicate, length-drop, take-append-drop}
 use lib.Seq.{drop-cons, length-take-le, get_or-take}
-use lib.Pow.{pow_pos}
+use lib.Pow.{pow-add, shl-shr, pow_pos}
 use Rattle.algebra.specs.Xor.{◌⊕◌}
 use Rattle.algebra.specs.Tables.{num}
 use Rattle.algebra.specs.Words.{Word, bit, ◌⊻◌, kept, dot}
@@ -24,10 +24,9 @@ use Rattle.rules.proofs.Laws.Shape.{word_ext}
 use Rattle.rules.proofs.Laws.CodeLaws.{Sound, top, degree_is, powers_first}
 use Rattle.rules.proofs.Laws.CheckLaws.{checks_dot, checks-⊻, codeword_checks, zeros_ahead}
 use Rattle.rules.proofs.Laws.EncodeWordLaws.{encode-length, encode_data, encode_codeword}
-use Rattle.laws.specs.InPlace.{most_bits, word_at, Inside, flip_at, put_bit, put}
+use Rattle.laws.specs.InPlace.{word_at, Inside, flip_at, put_bit, put}
 use Rattle.laws.specs.Turns.{completed}
-use Rattle.laws.proofs.InPlaceLaws.{word_at-length, word_at-bit, put-length, put_out}
-use Rattle.laws.proofs.CheckLoopLaws.{place_inside}
+use Rattle.laws.proofs.InPlaceLaws.{word_at-length, word_at-bit, put_out}
 
 -- ---- the values of the last places
 
@@ -230,28 +229,16 @@ module _ (code : Code) (ok : Sound code) (n : ℕ) (s : List ℕ) (start step : 
 -- ---- the loop
 
 -- the data and the first j check bits are put, and `left` is what the others owe
-pub record Settling (code : Code) (n : ℕ) (s₀ : List ℕ) (start step j : ℕ) (s : List ℕ) (left v x : ℕ) : Type 0 where
+pub record Settling (code : Code) (n : ℕ) (s₀ : List ℕ) (start step j : ℕ) (s : List ℕ) (left : ℕ) : Type 0 where
   pub inside : Inside code n s₀ start step
   pub turns : j ≤ top_digit code
   pub there : s ≡ put (data_bits code n + j) s₀ start step (completed code n (word_at n s₀ start step))
   pub owes : left ≡ owed code.extended (top_digit code - j) (data_bits code n + j) (wrong code n s₀ start step)
-  pub digit : v ≡ 2 ^ (top_digit code - j)
-  pub small : (v ≤ 2 ^ top_digit code) × (step ≤ most_bits)
-  pub place : x ≡ start + (data_bits code n + j) * step
-  pub within : x < length s₀ * 8
-  pub long : length s ≡ length s₀
-
--- the sums and products on the way to a place fit
-pub places_fit :
-    (code : Code) (ok : Sound code) (n : ℕ) (s : List ℕ) (start step : ℕ) → Inside code n s start step
-    → (step ≤ most_bits) × (data_bits code n * step ≤ most_bits) × (start + data_bits code n * step ≤ most_bits)
-places_fit code ok n s start step i =
-    omega (arith, place_inside code n s start step 1 i (omega arith), place_inside code n s start step (data_bits code n) i (omega arith))
 
 pub settle_start :
-    (code : Code) (ok : Sound code) (n : ℕ) (s₀ : List ℕ) (start step left : ℕ) → Inside code n s₀ start step → left ≡ checks code n (word_at n s₀ start step)
-    → Settling code n s₀ start step 0 s₀ left (2 ^ top_digit code) (start + data_bits code n * step)
-settle_start code ok n s₀ start step left i e =
+    (code : Code) (ok : Sound code) {n : ℕ} {s₀ : List ℕ} {start step left : ℕ} → Inside code n s₀ start step → left ≡ checks code n (word_at n s₀ start step)
+    → Settling code n s₀ start step 0 s₀ left
+settle_start code ok {n} {s₀} {start} {step} i e =
     let z : data_bits code n ≡ data_bits code n + 0 = omega arith in
     let y : top_digit code ≡ top_digit code - 0 = omega arith in
     record {
@@ -259,45 +246,46 @@ settle_start code ok n s₀ start step left i e =
       turns = omega arith;
       there = sym (put_data code ok n s₀ start step i.0 (data_bits code n + 0) i.3 (omega arith));
       owes = e ∙ wrong_checks code ok n s₀ start step i.0 ∙ ap₂ (λ k m. owed code.extended k m (wrong code n s₀ start step)) y z;
-      digit = ap (λ k. 2 ^ k) y;
-      small = (omega arith, (places_fit code ok n s₀ start step i).0);
-      place = ap (λ m. start + m * step) z;
-      within = place_inside code n s₀ start step (data_bits code n) i (omega arith);
-      long = refl;
     }
 
 module _
-    (code : Code) (ok : Sound code) {n : ℕ} {s₀ : List ℕ} {start step j : ℕ} {s : List ℕ} {left v x : ℕ}
-    (c : Settling code n s₀ start step j s left v x) where
+    (code : Code) (ok : Sound code) {n : ℕ} {s₀ : List ℕ} {start step j : ℕ} {s : List ℕ} {left : ℕ}
+    (c : Settling code n s₀ start step j s left) where
   u : Word
   u = completed code n (word_at n s₀ start step)
+
+  -- this place in the buffer, and the highest digit of its value
+  abbrev here : ℕ
+  here = start + (data_bits code n + j) * step
+
+  abbrev digit : ℕ
+  digit = 2 ^ (top_digit code - j)
+
+  -- as the program shifts it down
+  pub settle_digit : 2 ^ top_digit code / 2 ^ j ≡ digit
+  settle_digit =
+      let e : top_digit code ≡ top_digit code - j + j = omega (arith, c.turns) in
+      ap (λ (m : ℕ). 2 ^ m / 2 ^ j) e ∙ ap (λ (m : ℕ). m / 2 ^ j) (pow-add 2 (top_digit code - j) j) ∙ shl-shr digit j
 
   -- what is put next, and what is owed then
   next :
       (t : List ℕ) (left' : ℕ) → j < top_digit code
-      → t ≡ cond (bit (wrong code n s₀ start step) (data_bits code n + j)) (flip_at s x) s
+      → t ≡ cond (bit (wrong code n s₀ start step) (data_bits code n + j)) (flip_at s here) s
       → left' ≡ owed code.extended (top_digit code - (j + 1)) (suc (data_bits code n + j)) (wrong code n s₀ start step)
-      → Settling code n s₀ start step (j + 1) t left' (v / 2) (x + step)
+      → Settling code n s₀ start step (j + 1) t left'
   unfolding u
   next t left' h e o =
       let p : suc (data_bits code n + j) ≡ data_bits code n + (j + 1) = omega arith in
-      let q : top_digit code - j ≡ suc (top_digit code - (j + 1)) = omega arith in
-      let here : t ≡ put (data_bits code n + (j + 1)) s₀ start step u =
+      let now : t ≡ put (data_bits code n + (j + 1)) s₀ start step u =
       e
-      ∙ ap₂ (λ r y. cond (bit (wrong code n s₀ start step) (data_bits code n + j)) (flip_at r y) r) c.there c.place
+      ∙ ap (λ r. cond (bit (wrong code n s₀ start step) (data_bits code n + j)) (flip_at r here) r) c.there
       ∙ sym (put_next code ok n s₀ start step c.inside.0 (data_bits code n + j) c.inside.3 (omega arith))
       ∙ ap (λ m. put m s₀ start step u) p in
-      let at : x + step ≡ start + (data_bits code n + (j + 1)) * step = omega (arith, c.place) in
       record {
         inside = c.inside;
         turns = omega arith;
-        there = here;
+        there = now;
         owes = o ∙ ap (λ m. owed code.extended (top_digit code - (j + 1)) m (wrong code n s₀ start step)) p;
-        digit = omega (arith, c.digit, ap (λ e. 2 ^ e) q, pow-suc 2 (top_digit code - (j + 1)));
-        small = (omega (arith, c.small.0), c.small.1);
-        place = at;
-        within = rw at (place_inside code n s₀ start step (data_bits code n + (j + 1)) c.inside (omega arith));
-        long = ap length here ∙ put-length (data_bits code n + (j + 1)) s₀ start step u;
       }
 
   -- what is owed, by this place's bit
@@ -312,12 +300,12 @@ module _
       c.owes ∙ ap (λ k. owed code.extended k (data_bits code n + j) e) q
       ∙ owed_next code.extended (top_digit code - (j + 1)) (data_bits code n + j) e (omega (arith, wrong-length code ok n s₀ start step c.inside.0))
 
-  digit_next : j < top_digit code → v ≡ 2 ^ suc (top_digit code - (j + 1))
-  digit_next h = let q : top_digit code - j ≡ suc (top_digit code - (j + 1)) = omega arith in c.digit ∙ ap (λ e. 2 ^ e) q
+  digit_next : j < top_digit code → digit ≡ 2 ^ suc (top_digit code - (j + 1))
+  digit_next h = let q : top_digit code - j ≡ suc (top_digit code - (j + 1)) = omega arith in ap (λ e. 2 ^ e) q
 
   pub settle_flip :
-      {t : List ℕ} {left' : ℕ} → j < top_digit code → v ≤ left → t ≡ flip_at s x → left' ≡ left ⊕ (v + num code.extended)
-      → Settling code n s₀ start step (j + 1) t left' (v / 2) (x + step)
+      {t : List ℕ} {left' : ℕ} → j < top_digit code → digit ≤ left → t ≡ flip_at s here → left' ≡ left ⊕ (digit + num code.extended)
+      → Settling code n s₀ start step (j + 1) t left'
   settle_flip {t} {left'} h l et el =
       let k : ℕ = top_digit code - (j + 1) in
       let e : Word = wrong code n s₀ start step in
@@ -325,25 +313,24 @@ module _
       taken code.extended k (bit e (data_bits code n + j)) (owed code.extended k (suc (data_bits code n + j)) e) left (owed-lt code.extended k (suc (data_bits code n + j)) e) (owes_next h)
       (omega (arith, digit_next h)) in
       next t left' h
-      (et ∙ ap (λ b. cond b (flip_at s x) s) (sym r.0))
+      (et ∙ ap (λ b. cond b (flip_at s here) s) (sym r.0))
       (el ∙ ap (λ y. left ⊕ (y + num code.extended)) (digit_next h) ∙ r.1)
 
   pub settle_keep :
-      {t : List ℕ} {left' : ℕ} → j < top_digit code → left < v → t ≡ s → left' ≡ left
-      → Settling code n s₀ start step (j + 1) t left' (v / 2) (x + step)
+      {t : List ℕ} {left' : ℕ} → j < top_digit code → left < digit → t ≡ s → left' ≡ left → Settling code n s₀ start step (j + 1) t left'
   settle_keep {t} {left'} h l et el =
       let k : ℕ = top_digit code - (j + 1) in
       let e : Word = wrong code n s₀ start step in
       let r =
       passed code.extended k (bit e (data_bits code n + j)) (owed code.extended k (suc (data_bits code n + j)) e) left (owed-lt code.extended k (suc (data_bits code n + j)) e) (owes_next h)
       (omega (arith, digit_next h)) in
-      next t left' h (et ∙ ap (λ b. cond b (flip_at s x) s) (sym r.0)) (el ∙ r.1)
+      next t left' h (et ∙ ap (λ b. cond b (flip_at s here) s) (sym r.0)) (el ∙ r.1)
 
   -- the last place, after the loop
   last :
       top_digit code ≤ j
       → (left ≡ num (bit (wrong code n s₀ start step) (n - 1)))
-      × (cond (bit (wrong code n s₀ start step) (n - 1)) (flip_at s x) s ≡ put n s₀ start step u)
+      × (cond (bit (wrong code n s₀ start step) (n - 1)) (flip_at s (start + (n - 1) * step)) s ≡ put n s₀ start step u)
   unfolding u
   last lo =
       let e : Word = wrong code n s₀ start step in
@@ -352,17 +339,17 @@ module _
       let p : data_bits code n + j ≡ n - 1 = omega arith in
       let q : suc (n - 1) ≡ n = omega arith in (
         c.owes ∙ ap₂ (λ k m. owed code.extended k m e) z p ∙ owed_end code.extended (n - 1) e (omega (arith, wrong-length code ok n s₀ start step c.inside.0)),
-        ap₂ (λ r y. cond (bit e (n - 1)) (flip_at r y) r)
-            (c.there ∙ ap (λ m. put m s₀ start step u) p) (c.place ∙ ap (λ m. start + m * step) p)
+        ap (λ r. cond (bit e (n - 1)) (flip_at r (start + (n - 1) * step)) r) (c.there ∙ ap (λ m. put m s₀ start step u) p)
             ∙ sym (put_next code ok n s₀ start step c.inside.0 (n - 1) c.inside.3 (omega arith))
             ∙ ap (λ m. put m s₀ start step u) q,
       )
 
-  pub settle_end_flip : top_digit code ≤ j → left ≡ 1 → flip_at s x ≡ put n s₀ start step (completed code n (word_at n s₀ start step))
+  pub settle_end_flip :
+      top_digit code ≤ j → left ≡ 1 → flip_at s (start + (n - 1) * step) ≡ put n s₀ start step (completed code n (word_at n s₀ start step))
   unfolding u
   settle_end_flip lo l = let r = last lo in go (bit (wrong code n s₀ start step) (n - 1)) r.0 r.1
     where
-      go : (b : Bool) → left ≡ num b → cond b (flip_at s x) s ≡ put n s₀ start step u → flip_at s x ≡ put n s₀ start step u
+      go : (b : Bool) → left ≡ num b → cond b (flip_at s (start + (n - 1) * step)) s ≡ put n s₀ start step u → flip_at s (start + (n - 1) * step) ≡ put n s₀ start step u
       go true e h = h
       go false e h = absurd (omega arith)
 
@@ -370,6 +357,6 @@ module _
   unfolding u
   settle_end_keep lo l = let r = last lo in go (bit (wrong code n s₀ start step) (n - 1)) r.0 r.1
     where
-      go : (b : Bool) → left ≡ num b → cond b (flip_at s x) s ≡ put n s₀ start step u → s ≡ put n s₀ start step u
+      go : (b : Bool) → left ≡ num b → cond b (flip_at s (start + (n - 1) * step)) s ≡ put n s₀ start step u → s ≡ put n s₀ start step u
       go true e h = absurd (l e)
       go false e h = h

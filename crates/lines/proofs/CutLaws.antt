@@ -1,6 +1,6 @@
 -- An input that broke off: what its bytes hand out is the output of its whole lines.
 -- Assumes nothing.
-use mathlib.Core.Path.{◌≡◌, refl, sym, ap, ap₂, ◌∙◌}
+use mathlib.Core.Path.{◌≡◌, refl, sym, ap, ◌∙◌}
 use mathlib.Core.Logic.{◌≢◌, ◌⊎◌, inl, inr}
 use mathlib.Core.Bool.{Bool, true, false, not, ◌&&◌}
 use mathlib.Core.List.{List, [], ◌∷◌, ◌++◌, append_assoc, append-nil}
@@ -21,7 +21,7 @@ use Rattle.lines.specs.declared.state.Event.TheVariants.{Nothing}
 use Rattle.lines.specs.Stream.{at_start, most_lines, following, is_header, next_line, longer, state_after, event_at_end, Kept, keeping, kept_after, after_all}
 use Rattle.lines.specs.Say.{event_text, Regular}
 use Rattle.lines.proofs.StateLaws.{after_rejected, after_lf, end_rejected, end_none}
-use Rattle.lines.proofs.HandedLaws.{text_after, handed, after-append, handed-append, text-none}
+use Rattle.lines.proofs.HandedLaws.{handed, after-append, handed-append, text-none}
 use Rattle.lines.proofs.RunLaws.{run, run_output}
 
 -- ---- after an LF nothing happens at the end
@@ -72,34 +72,24 @@ module _ (header : Text) where
   next_line_end s line l h = go (next_line header s line).rejected refl
     where
       go : (b : Bool) → (next_line header s line).rejected ≡ b → event_at_end header (next_line header s line) l ≡ Nothing
-      go true e = sym (end_rejected header (next_line header s line) l e)
+      go true e = end_rejected header (next_line header s line) l e
       go false e =
-          sym (end_none header (next_line header s line) l e (ap not (ne_eqb (following s.number) 1 (following_more_than_one s.number h))))
+          end_none header (next_line header s line) l e (ap not (ne_eqb (following s.number) 1 (following_more_than_one s.number h)))
 
   lf_end : (k : Kept) → Counted k → at_end (kept_after header k lf) ≡ Nothing
   lf_end k h = go k.state.rejected refl
     where
-      s : State
-      s = k.state
-
-      l : List ℕ
-      l = (kept_after header k lf).line
-
-      go : (b : Bool) → s.rejected ≡ b → event_at_end header (state_after header s k.line lf) l ≡ Nothing
-      go true e =
-          ap (λ (q : State). event_at_end header q l) (sym (after_rejected header s k.line lf e).0) ∙ sym (end_rejected header s l e)
-      go false e =
-          ap (λ (q : State). event_at_end header q l) (sym (after_lf header s k.line lf e refl).0) ∙ next_line_end s k.line l h
+      go : (b : Bool) → k.state.rejected ≡ b → at_end (kept_after header k lf) ≡ Nothing
+      go true e = ap at_end (after_rejected header k lf e).0 ∙ end_rejected header k.state k.line e
+      go false e = ap at_end (after_lf header k lf e refl).0 ∙ next_line_end k.state k.line k.line h
 
   lines_end : (ls : List Text) (l : Text) (k : Kept) → Counted k → at_end (after_all header k (joined_lines (l ∷ ls))) ≡ Nothing
   unfolding after_all
   lines_end [] l k h =
-      ap (λ (t : Text). at_end (after_all header k t)) (append-nil (l ++ lf ∷ []))
-      ∙ ap at_end (after-append header l (lf ∷ []) k)
-      ∙ lf_end (after_all header k l) (counted_all l k h)
+      rw (append-nil (l ++ lf ∷ []), after-append header l (lf ∷ []) k) (lf_end (after_all header k l) (counted_all l k h))
   lines_end (l₂ ∷ ls) l k h =
-      ap at_end (after-append header (l ++ lf ∷ []) (joined_lines (l₂ ∷ ls)) k)
-      ∙ lines_end ls l₂ (after_all header k (l ++ lf ∷ [])) (counted_all (l ++ lf ∷ []) k h)
+      rw (after-append header (l ++ lf ∷ []) (joined_lines (l₂ ∷ ls)) k)
+      (lines_end ls l₂ (after_all header k (l ++ lf ∷ [])) (counted_all (l ++ lf ∷ []) k h))
 
 module _ (p : Program) where
   -- with its end, an input hands out one text more
@@ -109,17 +99,13 @@ module _ (p : Program) where
       ≡ handed p k m ++ event_text p (event_at_end p.header (after_all p.header k m).state (after_all p.header k m).line) (after_all p.header k m).line
   unfolding run handed after_all
   run_handed [] k = refl
-  run_handed (x ∷ m) k =
-      ap (λ (t : Text). text_after p k x ++ t) (run_handed m (kept_after p.header k x))
-      ∙ sym
-      (append_assoc (text_after p k x) (handed p (kept_after p.header k x) m)
-      (event_text p (at_end p.header (after_all p.header (kept_after p.header k x) m)) (after_all p.header (kept_after p.header k x) m).line))
+  run_handed (x ∷ m) k = rw (run_handed m (kept_after p.header k x), append_assoc) refl
 
   -- no LF, no text
   handed_open : (t : Text) (k : Kept) → NoLF t → handed p k t ≡ []
   unfolding handed
   handed_open [] k h = refl
-  handed_open (x ∷ t) k h = ap₂ (λ (u v : Text). u ++ v) (text-none p k x h.0) (handed_open t (kept_after p.header k x) h.1)
+  handed_open (x ∷ t) k h = rw (text-none p k x h.0) (handed_open t (kept_after p.header k x) h.1)
 
   -- ---- every input
 

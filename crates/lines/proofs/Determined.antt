@@ -16,8 +16,7 @@ pub record Determined : Type 0 where
       (header : Text) (s : State) (p : Text) (line : List ℕ) (r r' : Taken) (line₁ line₁' : List ℕ)
       → Takes header s p line r line₁ → Takes header s p line r' line₁' → (r ≡ r') × (line₁ ≡ line₁')
   pub text :
-      (p : Program) (e : Event) (line out : List ℕ) (n n' : ℕ) (exit exit' : List ℕ)
-      → Says p e line out n exit → Says p e line out n' exit' → (n ≡ n') × (exit ≡ exit')
+      (p : Program) (e : Event) (line : List ℕ) (text text' : Text) → Says p e line text → Says p e line text' → text ≡ text'
 
 three : {s s' : State} {e e' : Event} {a a' : ℕ} → s ≡ s' → e ≡ e' → a ≡ a' → ◌≡◌ {A = Taken} (record { state = s; event = e; taken = a }) (record { state = s'; event = e'; taken = a' })
 three e f g = rw (e, f, g)
@@ -29,5 +28,5 @@ determined = record {
         three (ap (λ (j : Kept). j.state) k) (t.1 ∙ sym t'.1) (t.2 ∙ sym t'.2),
         ap (λ (j : Kept). j.line) k,
       );
-  text = λ p e line out n n' exit exit' l l'. (l.1.0 ∙ sym l'.1.0, l.1.2 ∙ sym l'.1.2);
+  text = λ p e line text text' l l'. l.1 ∙ sym l'.1;
 }

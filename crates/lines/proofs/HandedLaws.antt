@@ -27,23 +27,18 @@ unfolding after_all
 after-append header [] b k = refl
 after-append header (x ∷ a) b k = after-append header a b (kept_after header k x)
 
-kept_rejected : (header : Text) (k : Kept) (x : ℕ) → k.state.rejected ≡ true → kept_after header k x ≡ k
-kept_rejected header k x e =
-    let q = after_rejected header k.state k.line x e in ap₂ keeping (sym q.0) (sym q.1)
-
 after_all_rejected : (header m : Text) (k : Kept) → k.state.rejected ≡ true → after_all header k m ≡ k
 unfolding after_all
 after_all_rejected header [] k e = refl
-after_all_rejected header (x ∷ m) k e =
-    ap (λ (j : Kept). after_all header j m) (kept_rejected header k x e) ∙ after_all_rejected header m k e
+after_all_rejected header (x ∷ m) k e = rw (after_rejected header k x e).0 (after_all_rejected header m k e)
 
 -- a byte that is no LF makes nothing happen
 event_none : (header : Text) (k : Kept) (x : ℕ) → x ≢ lf → event_after header k.state k.line x ≡ Nothing
 event_none header k x d = go k.state.rejected refl
   where
     go : (b : Bool) → k.state.rejected ≡ b → event_after header k.state k.line x ≡ Nothing
-    go true e = sym (after_rejected header k.state k.line x e).2
-    go false e = sym (after_other header k.state k.line x e d).2
+    go true e = (after_rejected header k x e).1
+    go false e = (after_other header k x e d).1
 
 module _ (p : Program) where
   -- the text that is handed out for a byte
@@ -58,20 +53,17 @@ module _ (p : Program) where
   pub handed-append : (a b : Text) (k : Kept) → handed k (a ++ b) ≡ handed k a ++ handed (after_all p.header k a) b
   unfolding after_all handed
   handed-append [] b k = refl
-  handed-append (x ∷ a) b k =
-      ap (λ (t : Text). text_after k x ++ t) (handed-append a b (kept_after p.header k x))
-      ∙ sym (append_assoc (text_after k x) (handed (kept_after p.header k x) a) (handed (after_all p.header (kept_after p.header k x) a) b))
+  handed-append (x ∷ a) b k = rw (handed-append a b (kept_after p.header k x), append_assoc) refl
 
   pub text-none : (k : Kept) (x : ℕ) → x ≢ lf → text_after k x ≡ []
-  text-none k x d = ap (λ (e : Event). event_text p e (kept_after p.header k x).line) (event_none p.header k x d)
+  text-none k x d = rw (event_none p.header k x d) refl
 
   handed_rejected : (m : Text) (k : Kept) → k.state.rejected ≡ true → handed k m ≡ []
   unfolding handed
   handed_rejected [] k e = refl
   handed_rejected (x ∷ m) k e =
-      ap₂ (λ (t u : Text). t ++ u)
-      (ap (λ (v : Event). event_text p v (kept_after p.header k x).line) (sym (after_rejected p.header k.state k.line x e).2))
-      (ap (λ (j : Kept). handed j m) (kept_rejected p.header k x e) ∙ handed_rejected m k e)
+      let q = after_rejected p.header k x e in
+      rw (q.1, q.0) (handed_rejected m k e)
 
   -- ---- a piece
 
@@ -91,37 +83,23 @@ module _ (p : Program) where
           Dec (x ≡ lf) → Took (kept_after p.header k x) (suc i) piece (up_to_lf p.header (kept_after p.header k x) (suc i) piece)
           → Took k i (x ∷ piece) (up_to_lf p.header k i (x ∷ piece))
       go (yes e) t =
-          let q = up_lf p.header k i x piece e in
-          record {
-            many = 1;
-            bytes = ap (λ (u : Stop). u.taken) q ∙ omega arith;
-            left = ap (λ (u : Stop). u.kept) q;
-            text = ap (λ (u : Stop). event_text p u.event u.kept.line) q ∙ sym (append-nil (text_after k x));
-          }
+          rw (up_lf p.header k i x piece e) (record { many = 1; bytes = omega arith; left = refl; text = sym (append-nil (text_after k x)) })
       go (no d) t =
-          let q = up_other p.header k i x piece d in
-          record {
-            many = suc t.many;
-            bytes = ap (λ (u : Stop). u.taken) q ∙ t.bytes ∙ omega arith;
-            left = ap (λ (u : Stop). u.kept) q ∙ t.left;
-            text =
-                ap (λ (u : Stop). event_text p u.event u.kept.line) q
-                ∙ t.text
-                ∙ sym (ap (λ (u : Text). u ++ handed (kept_after p.header k x) (take t.many piece)) (text-none k x d));
-          }
+          rw (up_other p.header k i x piece d)
+          (record { many = suc t.many; bytes = t.bytes ∙ omega arith; left = t.left; text = t.text ∙ rw (text-none k x d) refl })
 
   took : (k : Kept) (piece : Text) → Took k 0 piece (stopped p.header k piece)
   took k piece = go k.state.rejected refl
     where
       go : (b : Bool) → k.state.rejected ≡ b → Took k 0 piece (stopped p.header k piece)
       go true e =
-          let q = stopped_rejected p.header k piece e in
-          record {
+          rw (stopped_rejected p.header k piece e)
+          (record {
             many = length piece;
-            bytes = ap (λ (u : Stop). u.taken) q ∙ omega arith;
-            left = ap (λ (u : Stop). u.kept) q ∙ sym (after_all_rejected p.header (take (length piece) piece) k e);
-            text = ap (λ (u : Stop). event_text p u.event u.kept.line) q ∙ sym (handed_rejected (take (length piece) piece) k e);
-          }
+            bytes = omega arith;
+            left = sym (after_all_rejected p.header (take (length piece) piece) k e);
+            text = sym (handed_rejected (take (length piece) piece) k e);
+          })
       go false e = rw (stopped_going p.header k piece e) (took_up piece k 0)
 
   module _ (s : State) (piece : Text) (line : List ℕ) (r : Taken) (line₁ : List ℕ) (t : Takes p.header s piece line r line₁) where
@@ -142,9 +120,6 @@ module _ (p : Program) where
         ∙ ap (λ (j : ℕ). handed (keeping s line) (take j piece)) many_taken
 
 -- ---- bytes one after the other
-
-pub leaves_some : (p : Program) (k : Kept) (m : Text) → (j : ℕ) × ((stopped p.header k m).kept ≡ after_all p.header k (take j m))
-leaves_some p k m = let t = took p k m in (t.many, t.left)
 
 pub some-none : (header : Text) (s : State) (line : List ℕ) (k : Kept) → k ≡ keeping s line → LeavesSome header s line k.state k.line
 unfolding after_all

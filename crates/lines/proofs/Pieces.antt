@@ -5,16 +5,13 @@
 -- Assumes nothing.
 use mathlib.Core.Path.{◌≡◌, refl, sym, ap, ap₂, ◌∙◌}
 use mathlib.Core.List.{List, [], ◌∷◌, ◌++◌}
-use Prim.Native.Nat.{ℕ, suc, ◌+◌, ◌^◌, ◌≤◌, ◌<◌}
-use native.Mathlib.Omega.{arith}
-use lib.ListN.{length, take, drop}
-use lib.Seq.{take_at}
+use Prim.Native.Nat.{ℕ, suc, ◌^◌, ◌≤◌, ◌<◌}
+use lib.ListN.{length, take}
 use Rattle.textrules.specs.Text.{Text}
 use Rattle.textrules.specs.Programs.{Program, output, output_cut}
 use Rattle.lines.specs.declared.state.State.{State}
 use Rattle.lines.specs.declared.state.Event.{Event}
 use Rattle.lines.specs.declared.state.Taken.{Taken}
-use Rattle.text.specs.Laid.{laid, Lays}
 use Rattle.lines.specs.Stream.{at_start, event_at_end, Kept, keeping, after_all}
 use Rattle.lines.specs.Say.{event_text, Regular}
 use Rattle.lines.specs.Calls.{Takes, Says}
@@ -24,22 +21,20 @@ use Rattle.lines.proofs.CutLaws.{run_handed, handed_cut}
 
 -- ---- The statement
 
--- a piece taken, and what the program said of it: the piece, what `take` returned and left in the line buffer, the buffer that was lent
--- for the text, how much was handed out, and what was in that buffer then
+-- a piece taken, and what the program said of it: the piece, what `take` returned and left in the line buffer, and the text that was
+-- handed out
 pub record Call : Type 0 where
   pub piece : Text
   pub taken : Taken
   pub line : List ℕ
-  pub lent : List ℕ
-  pub written : ℕ
-  pub exit : List ℕ
+  pub text : Text
 
 -- calls one after the other, each with the state and the line buffer that the one before left; those of the last stand at the end
 abbrev pub Calls : Program → State → List ℕ → List Call → State → List ℕ → Type 0
 Calls p s line [] end left = (s ≡ end) × (line ≡ left)
 Calls p s line (c ∷ later) end left =
     Takes p.header s c.piece line c.taken c.line
-    × Says p c.taken.event c.line c.lent c.written c.exit
+    × Says p c.taken.event c.line c.text
     × Calls p c.taken.state c.line later end left
 
 -- the input: of a piece those bytes that were taken; the rest is for the next call
@@ -47,10 +42,10 @@ abbrev pub input_of : List Call → Text
 input_of [] = []
 input_of (c ∷ later) = take c.taken.taken c.piece ++ input_of later
 
--- what was handed out: the start of each lent buffer
+-- what was handed out
 abbrev pub text_of : List Call → Text
 text_of [] = []
-text_of (c ∷ later) = take c.written c.exit ++ text_of later
+text_of (c ∷ later) = c.text ++ text_of later
 
 pub record Pieces (p : Program) : Type 0 where
   -- of a piece no more is taken than there is, and something where there is anything
@@ -63,20 +58,14 @@ pub record Pieces (p : Program) : Type 0 where
   -- from the start, with a line buffer that holds anything. Past 2^64 lines the line numbers would not fit a machine word
   pub whole :
       (line : List ℕ) → length line ≡ p.longest → (calls : List Call) (end : State) (left : List ℕ)
-      → Calls p at_start line calls end left → (last : Event) → last ≡ event_at_end p.header end left → (out : List ℕ) (n : ℕ) (exit : List ℕ)
-      → Says p last left out n exit → suc (length (input_of calls)) < 2 ^ 64
-      → text_of calls ++ take n exit ≡ output p (input_of calls)
+      → Calls p at_start line calls end left → (last : Event) → last ≡ event_at_end p.header end left → (text : Text)
+      → Says p last left text → suc (length (input_of calls)) < 2 ^ 64
+      → text_of calls ++ text ≡ output p (input_of calls)
   -- without the end
   pub cut :
       (line : List ℕ) → length line ≡ p.longest → (calls : List Call) (end : State) (left : List ℕ)
       → Calls p at_start line calls end left → suc (length (input_of calls)) < 2 ^ 64
       → text_of calls ≡ output_cut p (input_of calls)
-
--- ---- a call hands out the text that it laid
-
-handed_text : (out : List ℕ) (t : Text) (r : ℕ) (out₁ : List ℕ) → Lays out 0 t r out₁ → take r out₁ ≡ t
-unfolding laid
-handed_text out t r out₁ l = ap (take r) l.2 ∙ take_at t (drop (0 + length t) out) r (omega (arith, l.0))
 
 -- ---- the calls, as their bytes one after the other
 
@@ -95,7 +84,7 @@ calls_bytes p (c ∷ later) s line end left (t, l, rest) =
     let b = calls_bytes p later c.taken.state c.line end left rest in
     let q = piece_left p s c.piece line c.taken c.line t in
     let e =
-    handed_text c.lent (event_text p c.taken.event c.line) c.written c.exit l.1
+    l.1
     ∙ piece_text p s c.piece line c.taken c.line t in
     record {
       text =
@@ -109,10 +98,10 @@ pub pieces : (p : Program) → Regular p → Pieces p
 pieces p ok = record {
   within = piece_within p.header;
   some = piece_some p.header;
-  whole = λ line f calls end left c last q out n exit e h.
+  whole = λ line f calls end left c last q text e h.
       let b = calls_bytes p calls at_start line end left c in
       ap₂ (λ (u v : Text). u ++ v) b.text
-      (handed_text out (event_text p last left) n exit e.1
+      (e.1
       ∙ ap (λ (v : Event). event_text p v left) q
       ∙ ap (λ (k : Kept). event_text p (event_at_end p.header k.state k.line) k.line) b.last)
       ∙ sym (run_handed p (input_of calls) (keeping at_start line))

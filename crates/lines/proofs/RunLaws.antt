@@ -1,6 +1,6 @@
 -- What is still to be handed out from a state on, for the input that is left: the output of the lines that are left.
 -- Assumes nothing.
-use mathlib.Core.Path.{◌≡◌, refl, sym, ap, ap₂, ◌∙◌}
+use mathlib.Core.Path.{◌≡◌, refl, sym, ap, ◌∙◌}
 use mathlib.Core.Logic.{◌≢◌, ◌⊎◌, inl, inr}
 use mathlib.Core.Bool.{Bool, true, false, not, ◌&&◌}
 use mathlib.Core.List.{List, [], ◌∷◌, ◌++◌, append_assoc, append-nil, cons-ne-nil}
@@ -11,6 +11,7 @@ use lib.Dec.{eqb}
 use lib.ListN.{length, take, set, length-append, length-set}
 use lib.Seq.{take-suc-set}
 use borrow.Author.Tests.{eq-eqb, ne_eqb, lt-ltb, le-leb, lt-leb}
+use Rattle.std.proofs.lemmas.Bool.{false_from_ne_true}
 use Rattle.rules.specs.Numbers.{pick}
 use Rattle.textrules.specs.Text.{Text, lf, same, lines}
 use Rattle.textrules.specs.Programs.{bad_header, Program, output_from, under_header, output}
@@ -18,15 +19,10 @@ use Rattle.textrules.proofs.Laws.TextLaws.{all_append}
 use Rattle.textrules.proofs.Promises.Lines.{NoLF, lines_cut, lines_open}
 use Rattle.textrules.proofs.Promises.Outputs.{same_is}
 use Rattle.lines.specs.declared.state.State.{State}
-use Rattle.lines.specs.declared.state.Event.{Event}
 use Rattle.lines.specs.Stream.{at_start, most_lines, is_header, closed, next_line, longer, event_at_end, Kept, keeping, kept_after}
 use Rattle.lines.specs.Say.{event_text, Regular}
-use Rattle.lines.proofs.StateLaws.{header_over, closed_first, closed_over, closed_kept, after_rejected, after_lf, after_other, end_rejected, end_none, end_line, between_not}
+use Rattle.lines.proofs.StateLaws.{header_over, closed_first, closed_over, closed_kept, after_rejected, after_lf, after_other, end_rejected, end_none, end_line}
 use Rattle.lines.proofs.HandedLaws.{text_after}
-
-is_false : (b : Bool) → (b ≡ true → ⊥) → b ≡ false
-is_false true h = absurd (h refl)
-is_false false h = refl
 
 -- a state at the start of line k
 abbrev line_state : ℕ → Bool → State
@@ -62,11 +58,10 @@ module _ (p : Program) where
 
   run_rejected : (m : Text) (k : Kept) → k.state.rejected ≡ true → run k m ≡ []
   unfolding run
-  run_rejected [] k e = ap (λ (v : Event). event_text p v k.line) (sym (end_rejected p.header k.state k.line e))
+  run_rejected [] k e = rw (end_rejected p.header k.state k.line e) refl
   run_rejected (x ∷ m) k e =
-      let q = after_rejected p.header k.state k.line x e in
-      ap₂ (λ (t u : Text). t ++ u) (ap (λ (v : Event). event_text p v (kept_after p.header k x).line) (sym q.2))
-      (ap (λ (j : Kept). run j m) (ap₂ keeping (sym q.0) (sym q.1)) ∙ run_rejected m k e)
+      let q = after_rejected p.header k x e in
+      rw (q.1, q.0) (run_rejected m k e)
 
   -- ---- line k and those after it
 
@@ -84,19 +79,14 @@ module _ (p : Program) where
       first false q e = ap (λ (v : Text). bad_header ++ v) (bad e q) ∙ append-nil bad_header
 
       go : Dec (k ≡ 1) → line_says k t ++ u ≡ pick (eqb k 1) (under_header p (t ∷ ls)) (output_from p k (t ∷ ls))
-      go (yes e) =
-          ap (λ (b : Bool). pick b (pick (same t p.header) p.opening bad_header) (p.line_text k t) ++ u) (eq-eqb k 1 e)
-          ∙ first (same t p.header) refl e
-          ∙ sym (ap (λ (b : Bool). pick b (under_header p (t ∷ ls)) (output_from p k (t ∷ ls))) (eq-eqb k 1 e))
+      go (yes e) = rw (eq-eqb k 1 e) (first (same t p.header) refl e)
       go (no d) =
-          ap (λ (b : Bool). pick b (pick (same t p.header) p.opening bad_header) (p.line_text k t) ++ u) (ne_eqb k 1 d)
-          ∙ ap (λ (v : Text). p.line_text k t ++ v)
-          (more d ∙ ap (λ (b : Bool). pick b (under_header p ls) (output_from p (suc k) ls)) (ne_eqb (suc k) 1 (λ e. d (omega (arith, some, e)))))
-          ∙ sym (ap (λ (b : Bool). pick b (under_header p (t ∷ ls)) (output_from p k (t ∷ ls))) (ne_eqb k 1 d))
+          rw (ne_eqb k 1 d)
+          (ap (λ (v : Text). p.line_text k t ++ v) (more d ∙ rw (ne_eqb (suc k) 1 (λ e. d (omega (arith, some, e)))) refl))
 
   none_left : (k : ℕ) → k ≢ 1 → [] ≡ remaining k []
   unfolding remaining output_from
-  none_left k d = sym (ap (λ (b : Bool). pick b bad_header []) (ne_eqb k 1 d))
+  none_left k d = rw (ne_eqb k 1 d) refl
 
   -- ---- one more character
 
@@ -154,14 +144,13 @@ module _ (p : Program) where
   module _ (ok : Regular p) where
     too_long_header : (t : Text) → p.longest < length t → same t p.header ≡ false
     too_long_header t h =
-        is_false (same t p.header) (λ k. omega (arith, h, ap length (same_is t p.header k), ok.header_short))
+        false_from_ne_true (same t p.header) (λ k. omega (arith, h, ap length (same_is t p.header k), ok.header_short))
 
     none-same : same [] p.header ≡ false
-    none-same = is_false (same [] p.header) (λ k. ok.header_some (sym (same_is [] p.header k)))
+    none-same = false_from_ne_true (same [] p.header) (λ k. ok.header_some (sym (same_is [] p.header k)))
 
     held_header : (s : State) (line : List ℕ) (t : Text) → length line ≡ p.longest → Held s line t → is_header p.header s.length line ≡ same t p.header
-    held_header s line t f (inl h) =
-        ap₂ (λ (b : Bool) (u : Text). b && same u p.header) (le-leb s.length (length line) (omega (arith, f, h.0, h.1))) h.2
+    held_header s line t f (inl h) = rw (le-leb s.length (length line) (omega (arith, f, h.0, h.1)), h.2) refl
     held_header s line t f (inr h) =
         sym (header_over p.header s.length line (omega (arith, f, h.0))) ∙ sym (too_long_header t h.1)
 
@@ -169,32 +158,23 @@ module _ (p : Program) where
         (s : State) (line : List ℕ) (t : Text) → s.number ≢ 1 → length line ≡ p.longest → Held s line t
         → event_text p (closed p.header s line) line ≡ p.line_text s.number t
     later_says s line t d f (inl h) =
-        ap (λ (v : Event). event_text p v line) (sym (closed_kept p.header s line d (omega (arith, f, h.0, h.1))))
-        ∙ ap (p.line_text s.number) h.2
+        rw (closed_kept p.header s line d (omega (arith, f, h.0, h.1))) (ap (p.line_text s.number) h.2)
     later_says s line t d f (inr h) =
-        ap (λ (v : Event). event_text p v line) (sym (closed_over p.header s line d (omega (arith, f, h.0))))
-        ∙ sym (ok.too_long s.number t h.1)
+        rw (closed_over p.header s line d (omega (arith, f, h.0))) (sym (ok.too_long s.number t h.1))
 
     closed_says : (s : State) (line : List ℕ) (t : Text) → Partial s line t → event_text p (closed p.header s line) line ≡ line_says s.number t
     closed_says s line t g = go (ℕ_discrete s.number 1)
       where
         go : Dec (s.number ≡ 1) → event_text p (closed p.header s line) line ≡ line_says s.number t
-        go (yes e) =
-            ap (λ (v : Event). event_text p v line)
-            (sym (closed_first p.header s line e (same t p.header) (sym (held_header s line t g.full g.is_held))))
-            ∙ sym (ap (λ (b : Bool). pick b (pick (same t p.header) p.opening bad_header) (p.line_text s.number t)) (eq-eqb s.number 1 e))
-        go (no d) =
-            later_says s line t d g.full g.is_held
-            ∙ sym (ap (λ (b : Bool). pick b (pick (same t p.header) p.opening bad_header) (p.line_text s.number t)) (ne_eqb s.number 1 d))
+        go (yes e) = rw (closed_first p.header s line e, held_header s line t g.full g.is_held, eq-eqb s.number 1 e) refl
+        go (no d) = rw (ne_eqb s.number 1 d) (later_says s line t d g.full g.is_held)
 
     -- the state after its LF
     next_state :
         (s : State) (line : List ℕ) (t : Text) → Partial s line t → s.number < most_lines
         → next_line p.header s line ≡ line_state (suc s.number) (eqb s.number 1 && not (same t p.header))
     unfolding next_line
-    next_state s line t g h =
-        ap₂ line_state (ap (λ (b : Bool). pick b (suc s.number) s.number) (lt-ltb s.number most_lines h))
-        (ap (λ (b : Bool). eqb s.number 1 && not b) (held_header s line t g.full g.is_held))
+    next_state s line t g h = rw (lt-ltb s.number most_lines h, held_header s line t g.full g.is_held) refl
 
     -- ---- the end
 
@@ -208,28 +188,17 @@ module _ (p : Program) where
 
         go : Dec (s.number ≡ 1) → event_text p (event_at_end p.header s line) line ≡ pick (eqb s.number 1) bad_header (output_from p s.number [])
         go (yes e) =
-            ap (λ (v : Event). event_text p v line)
-            (sym
-            (end_line p.header s line g.going
-            (ap₂ (λ (b c : Bool). b && not c) (eq-eqb s.length 0 z) (eq-eqb s.number 1 e))))
-            ∙ closed_says s line [] g
-            ∙ ap₂ (λ (b c : Bool). pick b (pick c p.opening bad_header) (p.line_text s.number [])) (eq-eqb s.number 1 e) none-same
-            ∙ sym (ap (λ (b : Bool). pick b bad_header (output_from p s.number [])) (eq-eqb s.number 1 e))
+            rw (end_line p.header s line g.going (rw (eq-eqb s.length 0 z, eq-eqb s.number 1 e) refl))
+            (closed_says s line [] g ∙ rw (eq-eqb s.number 1 e, none-same) refl)
         go (no d) =
-            ap (λ (v : Event). event_text p v line)
-            (sym
-            (end_none p.header s line g.going
-            (ap₂ (λ (b c : Bool). b && not c) (eq-eqb s.length 0 z) (ne_eqb s.number 1 d))))
-            ∙ sym (ap (λ (b : Bool). pick b bad_header (output_from p s.number [])) (ne_eqb s.number 1 d))
+            rw (end_none p.header s line g.going (rw (eq-eqb s.length 0 z, ne_eqb s.number 1 d) refl), ne_eqb s.number 1 d) refl
 
     -- a last line without its LF
     end_open :
         (s : State) (line : List ℕ) (x : ℕ) (t : Text) → Partial s line (x ∷ t)
         → event_text p (event_at_end p.header s line) line ≡ remaining s.number ((x ∷ t) ∷ [])
     end_open s line x t g =
-        ap (λ (v : Event). event_text p v line)
-        (sym (end_line p.header s line g.going (sym (between_not s (length_some s line x t g.is_held)))))
-        ∙ closed_says s line (x ∷ t) g
+        rw (end_line p.header s line g.going (rw (ne_eqb s.length 0 (length_some s line x t g.is_held)) refl)) (closed_says s line (x ∷ t) g)
         ∙ sym (append-nil (line_says s.number (x ∷ t)))
         ∙ remaining_line s.number (x ∷ t) [] [] g.some (λ e q. none_left 2 (λ w. omega (arith, w))) (λ e q. refl)
         (λ d. none_left (suc s.number) (λ e. d (omega (arith, g.some, e))))
@@ -257,11 +226,9 @@ module _ (p : Program) where
         let k : ℕ = s.number in
         let b : Bool = eqb k 1 && not (same t p.header) in
         remaining_line k t (lines m) (run (keeping (line_state (suc k) b) line) m) g.some
-        (λ e w.
-        run_begun m ih k line b (ap₂ (λ (b c : Bool). b && not c) (eq-eqb k 1 e) w) g.full (omega (arith, h))
-        ∙ ap (λ (j : ℕ). remaining (suc j) (lines m)) e)
-        (λ e w. run_rejected m (keeping (line_state (suc k) b) line) (ap₂ (λ (b c : Bool). b && not c) (eq-eqb k 1 e) w))
-        (λ d. run_begun m ih k line b (ap (λ (c : Bool). c && not (same t p.header)) (ne_eqb k 1 d)) g.full (omega (arith, h)))
+        (λ e w. run_begun m ih k line b (rw (eq-eqb k 1 e, w) refl) g.full (omega (arith, h)) ∙ ap (λ (j : ℕ). remaining (suc j) (lines m)) e)
+        (λ e w. run_rejected m (keeping (line_state (suc k) b) line) (rw (eq-eqb k 1 e, w) refl))
+        (λ d. run_begun m ih k line b (rw (ne_eqb k 1 d) refl) g.full (omega (arith, h)))
 
     run_step :
         (x : ℕ) (m : Text) → Remains m → (s : State) (line : List ℕ) (t : Text) → Partial s line t
@@ -271,17 +238,12 @@ module _ (p : Program) where
       where
         go : Dec (x ≡ lf) → text_after p (keeping s line) x ++ run (kept_after p.header (keeping s line) x) m ≡ remaining s.number (lines (t ++ (x ∷ m)))
         go (yes e) =
-            let q = after_lf p.header s line x g.going e in
-            ap₂ (λ (u v : Text). u ++ v)
-            (ap₂ (λ (v : Event) (l : List ℕ). event_text p v l) (sym q.2) (sym q.1) ∙ closed_says s line t g)
-            (ap (λ (j : Kept). run j m) (ap₂ keeping (sym q.0 ∙ next_state s line t g (omega (arith, h))) (sym q.1)))
-            ∙ run_line m ih s line t g h
+            let q = after_lf p.header (keeping s line) x g.going e in
+            rw (q.0, ap (λ (j : Kept). j.line) q.0, q.1, closed_says s line t g, next_state s line t g (omega (arith, h))) (run_line m ih s line t g h)
             ∙ ap (remaining s.number) (sym (ap (λ (y : ℕ). lines (t ++ (y ∷ m))) e ∙ lines_cut t m g.no_lf))
         go (no d) =
-            let q = after_other p.header s line x g.going d in
-            ap₂ (λ (u v : Text). u ++ v) (ap (λ (v : Event). event_text p v (kept_after p.header (keeping s line) x).line) (sym q.2))
-            (ap (λ (j : Kept). run j m) (ap₂ keeping (sym q.0) (sym q.1)))
-            ∙ ih (longer (length line) s) (set line s.length x) (t ++ (x ∷ [])) (longer_partial s line t x d g) (omega (arith, h))
+            let q = after_other p.header (keeping s line) x g.going d in
+            rw (q.0, q.1) (ih (longer (length line) s) (set line s.length x) (t ++ (x ∷ [])) (longer_partial s line t x d g) (omega (arith, h)))
             ∙ ap (λ (u : Text). remaining s.number (lines u)) (append_assoc t (x ∷ []) m)
 
     -- what is left to hand out is the output of the lines that are left, the first of which begins with t

@@ -1,12 +1,11 @@
--- RULES 8: the contracts of the calls that take a text, each as one statement: the arguments, what was in the lent buffers, what is
--- returned, and what is in them then.
+-- RULES 8: the contracts of the calls that take a text, each as one statement: the arguments, what was in the lent buffer, what is
+-- returned, and what is in it then.
 use Rattle.std.specs.Prelude.{◌≡◌, List, ℕ, length}
 use Rattle.textrules.specs.Text.{Text}
 use Rattle.textrules.specs.Programs.{Program}
 use Rattle.lines.specs.declared.state.State.{State}
 use Rattle.lines.specs.declared.state.Event.{Event}
 use Rattle.lines.specs.declared.state.Taken.{Taken}
-use Rattle.text.specs.Laid.{Lays}
 use Rattle.lines.specs.Stream.{Stop, keeping, stopped, after_all}
 use Rattle.lines.specs.Say.{event_text}
 
@@ -16,9 +15,9 @@ Takes header s piece line r line-exit =
     let e : Stop = stopped header (keeping s line) piece in
     (keeping r.state line-exit ≡ e.kept) × (r.event ≡ e.event) × (r.taken ≡ e.taken)
 
--- what a program says of it, at the start of the lent buffer; its line buffer has room for its longest line, and no more
-abbrev pub Says : Program → Event → List ℕ → List ℕ → ℕ → List ℕ → Type 0
-Says p event line out r out-exit = (length line ≡ p.longest) × Lays out 0 (event_text p event line) r out-exit
+-- what a program says of it; its line buffer has room for its longest line, and no more
+abbrev pub Says : Program → Event → List ℕ → Text → Type 0
+Says p event line text = (length line ≡ p.longest) × (text ≡ event_text p event line)
 
 -- the bytes of m, from a state and a line buffer, leave these
 abbrev pub Leaves : Text → State → List ℕ → Text → State → List ℕ → Type 0

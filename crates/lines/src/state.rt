@@ -3,14 +3,9 @@ ghost use Rattle.std.specs.Prelude.{◌≡◌, length, take, set};
 ghost use Rattle.lines.specs.Stream.{at_start, following, is_header, closed, next_line, longer, is_between, event_at_end};
 ghost use Rattle.lines.specs.Calls.{Takes};
 
-use text::compare::same;
-
-// The greatest number of a line: the lines after it keep it.
-const MOST_LINES: usize = usize::MAX;
-
 // The number of the line being read, its characters so far (one more than the most says too long), and whether the header was
-// bad: then nothing more happens.
-#[derive(Clone, Copy)]
+// bad: then nothing more happens. A flag, as the definitions of the rules have it (`Takes`).
+#[derive(Clone, Copy, Debug, PartialEq, Eq)]
 pub struct State {
     pub number: usize,
     pub length: usize,
@@ -19,7 +14,7 @@ pub struct State {
 
 // What has happened: nothing; the first line is whole, and is the header or not; line k is whole and so many characters long;
 // or line k is whole and too long.
-#[derive(Clone, Copy)]
+#[derive(Clone, Copy, Debug, PartialEq, Eq)]
 pub enum Event {
     Nothing,
     Header(bool),
@@ -28,7 +23,7 @@ pub enum Event {
 }
 
 // The next state, what has happened, and the bytes that were taken of the piece.
-#[derive(Clone, Copy)]
+#[derive(Clone, Copy, Debug, PartialEq, Eq)]
 pub struct Taken {
     pub state: State,
     pub event: Event,
@@ -45,23 +40,11 @@ pub fn start() -> State
     }
 }
 
-fn following_number(number: usize) -> usize
-    ensures { result ≡ following number }
-{
-    if number < MOST_LINES {
-        return number + 1;
-    }
-    number
-}
-
 // As much of the buffer as the line takes up.
 pub fn part<'a>(line: &'a [u8], long: usize) -> &'a [u8]
     ensures { result.now ≡ take long line.now }
 {
-    if long < line.len() {
-        return &line[0..long];
-    }
-    &line[0..line.len()]
+    &line[..long.min(line.len())]
 }
 
 fn is_header(long: usize, header: &[u8], line: &[u8]) -> bool
@@ -70,10 +53,11 @@ fn is_header(long: usize, header: &[u8], line: &[u8]) -> bool
     if long > line.len() {
         return false;
     }
-    same(&line[0..long], header)
+    &line[0..long] == header
 }
 
 // The line is whole.
+#[tactic(auto, unfolding(crate::specs::Stream::closed))]
 fn closed_line(state: State, header: &[u8], line: &[u8]) -> Event
     ensures { result ≡ closed header.now state line.now }
 {
@@ -88,44 +72,34 @@ fn closed_line(state: State, header: &[u8], line: &[u8]) -> Event
     Event::Line(number, length)
 }
 
+#[tactic(auto, unfolding(crate::specs::Stream::next_line))]
 fn next_line(state: State, header: &[u8], line: &[u8]) -> State
     ensures { result ≡ next_line header.now state line.now }
 {
-    let number = following_number(state.number);
-    if state.number != 1 {
-        return State {
-            number,
-            length: 0,
-            rejected: false,
-        };
-    }
-    let good = is_header(state.length, header, line);
     State {
-        number,
+        number: state.number.saturating_add(1),
         length: 0,
-        rejected: !good,
+        rejected: state.number == 1 && !is_header(state.length, header, line),
     }
 }
 
 fn longer_line(state: State, line: &[u8]) -> State
     ensures { result ≡ longer (length line.now) state }
 {
-    let length = state.length;
-    if length <= line.len() {
-        return State {
-            number: state.number,
-            length: length + 1,
-            rejected: false,
-        };
-    }
+    let length = if state.length > line.len() {
+        state.length
+    } else {
+        state.length + 1
+    };
     State {
-        number: state.number,
         length,
         rejected: false,
+        ..state
     }
 }
 
-// A character that no longer fits is not kept.
+// A character that no longer fits is not kept. (With `get_mut` the proof does not close.)
+#[tactic(auto, using(crate::proofs::StateLaws::keep_out))]
 fn keep(line: &mut [u8], place: usize, byte: u8)
     ensures { line.new ≡ set line.old place byte }
 {
@@ -146,8 +120,7 @@ pub fn take(state: State, piece: &[u8], header: &[u8], line: &mut [u8]) -> Taken
         };
     }
     let mut current = state;
-    for i in 0..piece.len() {
-        let byte = piece[i];
+    for (i, &byte) in piece.iter().enumerate() {
         if byte == b'\n' {
             return Taken {
                 state: next_line(current, header, line),
@@ -169,20 +142,15 @@ pub fn take(state: State, piece: &[u8], header: &[u8], line: &mut [u8]) -> Taken
 fn is_between(state: State) -> bool
     ensures { result ≡ is_between state }
 {
-    if state.length != 0 {
-        return false;
-    }
-    state.number != 1
+    state.length == 0 && state.number != 1
 }
 
 // At the end of the input: a last line without its LF, or the header that is missing.
+#[tactic(auto, unfolding(crate::specs::Stream::event_at_end))]
 pub fn finish(state: State, header: &[u8], line: &[u8]) -> Event
     ensures { result ≡ event_at_end header.now state line.now }
 {
-    if state.rejected {
-        return Event::Nothing;
-    }
-    if is_between(state) {
+    if state.rejected || is_between(state) {
         return Event::Nothing;
     }
     closed_line(state, header, line)

@@ -1,1 +1,2 @@
--- The laws are those of `laws`, LocateSteps, and of `algebra`, PairLaws.
+-- The other laws are those of `laws`, LocateSteps, and of `algebra`, PairLaws.
+pub mod LoneLaws

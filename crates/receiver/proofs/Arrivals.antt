@@ -1,13 +1,14 @@
 -- RULES 14: a frame that arrives in pieces, whatever they are: any number of calls, by the contract of `receive` alone.
 -- Assumes nothing.
+use Rattle.std.proofs.Common.{rules}
 use mathlib.Core.Path.{◌≡◌, refl, sym, ap, subst, subst⁻¹, ◌∙◌}
 use mathlib.Core.Logic.{◌≢◌, ◌↔◌}
 use mathlib.Core.Bool.{Bool, true, false, true≢false}
 use mathlib.Core.List.{List, [], ◌∷◌, ◌++◌, append-nil}
 use Prim.Native.Nat.{ℕ, ◌+◌, ◌*◌, ◌≤◌, ◌<◌}
-use native.Mathlib.Nat.{add-zero, add_assoc, mul-le-mul}
+use native.Mathlib.Nat.{add-zero, mul-le-mul}
 use native.Mathlib.Omega.{arith}
-use borrow.Author.Tests.{eq-eqb, ne_eqb, ltb-true, lt-ltb}
+use borrow.Author.Tests.{eq-eqb, ne_eqb}
 use lib.Dec.{eqb}
 use lib.ListN.{length, drop, length-append}
 use lib.Seq.{drop-length}
@@ -18,18 +19,17 @@ use Rattle.rules.proofs.Laws.NumberLaws.{range_test}
 use Rattle.text.specs.Laid.{laid}
 use Rattle.text.proofs.LaidLaws.{laid_none, laid-length, laid_laid}
 use Rattle.receiver.specs.declared.state.State.{State}
-use Rattle.receiver.specs.declared.state.Received.{Received}
-use Rattle.receiver.specs.Pieces.{fresh_of, taken, receive}
+use Rattle.receiver.specs.Pieces.{Told, fresh_of, taken, receive}
 use Rattle.receiver.specs.Calls.{Receives}
 use Rattle.receiver.proofs.RefusalLaws.{refusal_0, receive_taken}
 use Rattle.receiver.proofs.ReceiveRule.{ReceiveRule, receiving}
 
 -- ---- The statement
 
--- a call: its piece, what was returned, and what the lent buffer had then
+-- a call: its piece, what was told, and what the lent buffer had then
 pub record Call : Type 0 where
   pub piece : List ℕ
-  pub said : Received
+  pub said : Told
   pub frame : List ℕ
 
 -- calls one after the other, each with the state that the one before returned, in the same buffer, to which nobody else writes; the last
@@ -83,7 +83,7 @@ pub record Ends (n : ℕ) (sent : List ℕ) (calls : List Call) (end : State) (l
   pub state : end ≡ record { n = n; bytes = frame_bytes n }
   -- the frame in one piece ends so too, in whatever buffer
   pub one_piece :
-      (lent : List ℕ) → length lent ≡ frame_bytes n → (r : Received) (exit : List ℕ) → Receives (fresh_of n) sent lent r exit
+      (lent : List ℕ) → length lent ≡ frame_bytes n → (r : Told) (exit : List ℕ) → Receives (fresh_of n) sent lent r exit
       → (r.number ≡ 0) × (r.state ≡ end) × (r.more ≡ last_more true calls) × (exit ≡ left)
 
 pub record Arrivals : Type 0 where
@@ -117,10 +117,10 @@ pub record Arrivals : Type 0 where
 
 -- what is said of a call, by its contract
 pub call_rule :
-    (s : State) (piece frame : List ℕ) (r : Received) (exit : List ℕ) → Receives s piece frame r exit
+    (s : State) (piece frame : List ℕ) (r : Told) (exit : List ℕ) → Receives s piece frame r exit
     → ReceiveRule small_code s piece frame r exit
 call_rule s piece frame r exit c =
-    subst⁻¹ (λ (e : Exit Received). ReceiveRule small_code s piece frame e.said e.output) c ((receiving small_code).keeps s piece frame)
+    subst⁻¹ (λ (e : Exit Told). ReceiveRule small_code s piece frame e.said e.output) c ((receiving small_code).keeps s piece frame)
 
 -- ---- Calls one after the other
 
@@ -144,25 +144,17 @@ arrived (c ∷ later) s frame end left o long room (t, rest) =
     let l = length-append c.piece (pieces_of later) in
     let fits : s.bytes + length c.piece ≤ frame_bytes s.n = omega (arith, l, room) in
     let next : State = record { n = s.n; bytes = s.bytes + length c.piece } in
-    let e : ◌≡◌ {A = Exit Received} (record { said = c.said; output = c.frame }) (taken s c.piece frame) =
+    let e : ◌≡◌ {A = Exit Told} (record { said = c.said; output = c.frame }) (taken s c.piece frame) =
     t ∙ receive_taken small_code s c.piece frame (refusal_0 small_code s (length c.piece) (length frame) o long fits) in
     let inside : s.bytes + length c.piece ≤ length frame = omega (arith, long, fits) in
     let k =
     arrived later next (laid frame s.bytes c.piece) end left o (laid-length frame s.bytes c.piece inside ∙ long)
-    (omega (arith, l, room)) (subst (λ (x : Exit Received). Calls x.said.state x.output later end left) e rest) in
+    (omega (arith, l, room)) (subst (λ (x : Exit Told). Calls x.said.state x.output later end left) e rest) in
+    let z : c.said.number ≡ 0 = ap (λ (x : Exit Told). x.said.number) e in
+    let sum : s.bytes + length (pieces_of (c ∷ later)) ≡ next.bytes + length (pieces_of later) = omega (arith, l) in
     record {
-      each = (
-        ap (λ (x : Exit Received). x.said.number) e,
-        (
-          λ h. ltb-true next.bytes (frame_bytes s.n) (sym (ap (λ (x : Exit Received). x.said.more) e) ∙ h),
-          λ h. ap (λ (x : Exit Received). x.said.more) e ∙ lt-ltb next.bytes (frame_bytes s.n) h,
-        ),
-        k.each,
-      );
-      state =
-          k.state
-          ∙ ap (λ (b : ℕ). record { n = s.n; bytes = b })
-          (add_assoc s.bytes (length c.piece) (length (pieces_of later)) ∙ ap (λ (b : ℕ). s.bytes + b) (sym l));
+      each = (z, (call_rule s c.piece frame c.said c.frame t).wanted z, k.each);
+      state = rw sum k.state;
       buffer = k.buffer ∙ laid_laid frame s.bytes c.piece (pieces_of later) inside;
     }
 
@@ -172,7 +164,7 @@ made :
     → (calls : List Call) × (end : State) × (left : List ℕ) × Calls s frame calls end left × (each_piece calls ≡ pieces)
 made [] s frame = ([], s, frame, (refl, refl), refl)
 made (piece ∷ pieces) s frame =
-    let e : Exit Received = receive small_code s piece frame in
+    let e : Exit Told = receive small_code s piece frame in
     let k = made pieces e.said.state e.output in (
       record { piece = piece; said = e.said; frame = e.output } ∷ k.0,
       k.1,
@@ -213,11 +205,11 @@ left_out (c ∷ later) s frame end left (t, rest) =
 -- what is laid at the start
 laid_front : (s t : List ℕ) → laid s 0 t ≡ t ++ drop (length t) s
 unfolding laid
-laid_front s t = let e : 0 + length t ≡ length t = omega arith in ap (λ (k : ℕ). t ++ drop k s) e
+laid_front s t = search rules
 
 -- and takes the whole
 laid_whole : (s t : List ℕ) → length t ≡ length s → laid s 0 t ≡ t
-laid_whole s t h = laid_front s t ∙ ap (λ (x : List ℕ). t ++ x) (ap (λ (k : ℕ). drop k s) h ∙ drop-length s) ∙ append-nil t
+laid_whole s t h = laid_front s t ∙ rw (h, drop-length s) (append-nil t)
 
 pub frame_some : (n : ℕ) → 18 ≤ n → 0 < frame_bytes n
 frame_some n h = let s : 1 * 1 ≤ n * row_bytes n = mul-le-mul {n₁ = 1} {m₁ = 1} (omega (arith, h)) (omega (arith, h)) in omega (arith, s)
@@ -241,20 +233,17 @@ module _
   whole_buffer = all.buffer ∙ ap (laid lent 0) c.pieces ∙ laid_whole lent sent (c.whole ∙ sym c.room)
 
   whole_state : end ≡ record { n = n; bytes = frame_bytes n }
-  whole_state =
-      let e : 0 + length (pieces_of calls) ≡ frame_bytes n = omega (arith, long) in
-      all.state ∙ ap (λ (b : ℕ). record { n = n; bytes = b }) e
+  whole_state = let e : 0 + length (pieces_of calls) ≡ frame_bytes n = omega (arith, long) in rw e at all.state
 
   no_more : last_more true calls ≡ false
   no_more = go (last_more true calls) (last_says n 0 true calls (λ h. frame_some n c.from, λ h. refl) all.each)
     where
       go : (b : Bool) → (b ≡ true) ↔ (0 + length (pieces_of calls) < frame_bytes n) → b ≡ false
-      go true t = absurd (omega (arith, t.0 refl, long))
-      go false t = refl
+      go b t = search (rules, long)
 
 -- the frame as one piece is a cutting too
 one_cut :
-    (n : ℕ) (sent lent : List ℕ) (r : Received) (exit : List ℕ) → 18 ≤ n → n ≤ 256 → length lent ≡ frame_bytes n
+    (n : ℕ) (sent lent : List ℕ) (r : Told) (exit : List ℕ) → 18 ≤ n → n ≤ 256 → length lent ≡ frame_bytes n
     → length sent ≡ frame_bytes n → Receives (fresh_of n) sent lent r exit
     → Cut n sent lent (record { piece = sent; said = r; frame = exit } ∷ []) r.state exit
 one_cut n sent lent r exit from up_to room whole c =
@@ -286,7 +275,7 @@ arrivals = record {
       let k = fresh_calls n lent calls end left from up_to room c h in
       let e : 0 + length (pieces_of calls) ≡ length (pieces_of calls) = omega arith in (
         k.each,
-        k.state ∙ ap (λ (b : ℕ). record { n = n; bytes = b }) e,
+        rw e at k.state,
         k.buffer ∙ laid_front lent (pieces_of calls),
       );
   keeps_taken = λ c later z. rw (eq-eqb c.said.number 0 z);

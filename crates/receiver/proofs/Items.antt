@@ -8,18 +8,17 @@ use lib.ListN.{replicate}
 use Rattle.rules.specs.Codes.{small_code}
 use Rattle.rules.specs.Numbers.{Exit}
 use Rattle.text.specs.Laid.{laid}
-use Rattle.receiver.specs.declared.state.Received.{Received}
-use Rattle.receiver.specs.Pieces.{refusal, receive}
+use Rattle.receiver.specs.Pieces.{Told, refusal, receive}
 use Rattle.receiver.specs.Packed.{host_receive}
 
 -- ---- The statement
 
 -- a call: n, the bytes so far, the piece, the buffer
-abbrev pub call : ℕ → ℕ → List ℕ → List ℕ → Exit Received
+abbrev pub call : ℕ → ℕ → List ℕ → List ℕ → Exit Told
 call n bytes piece frame = receive small_code (record { n = n; bytes = bytes }) piece frame
 
 -- what it gives: n, the bytes so far, the number, whether more is wanted, the buffer
-abbrev pub gives : ℕ → ℕ → ℕ → Bool → List ℕ → Exit Received
+abbrev pub gives : ℕ → ℕ → ℕ → Bool → List ℕ → Exit Told
 gives n bytes number more frame =
     record { said = record { state = record { n = n; bytes = bytes }; number = number; more = more }; output = frame }
 

@@ -1,6 +1,7 @@
 -- RULES 14: state and answer as one number: each part has room, and is read back.
 -- Assumes nothing.
-use mathlib.Core.Path.{◌≡◌, refl, ap, ap₂, subst⁻¹, ◌∙◌}
+use Rattle.std.proofs.Common.{rules}
+use mathlib.Core.Path.{◌≡◌, refl}
 use mathlib.Core.Bool.{Bool, true, false}
 use mathlib.Core.List.{List}
 use Prim.Native.Nat.{ℕ, ◌+◌, ◌*◌, ◌/◌, ◌%◌, ◌^◌, ◌<◌}
@@ -11,12 +12,10 @@ use lib.ListN.{length}
 use Rattle.algebra.specs.Tables.{num}
 use Rattle.rules.specs.Codes.{Code}
 use Rattle.rules.specs.Bits.{row_bytes}
-use Rattle.rules.specs.Numbers.{Exit}
 use Rattle.rules.proofs.Laws.CodeLaws.{Sound}
 use Rattle.laws.proofs.RefusalLaws.{not_longer}
 use Rattle.laws.proofs.CornerLaws.{square_small}
-use Rattle.receiver.specs.declared.state.Received.{Received}
-use Rattle.receiver.specs.Pieces.{refusal, receive}
+use Rattle.receiver.specs.Pieces.{Told, refusal, receive}
 use Rattle.receiver.specs.Packed.{state_in, said_in, wanted_bit, packed, Fits}
 use Rattle.receiver.proofs.RefusalLaws.{refusal_few, accepted, receive_taken, receive_refused}
 
@@ -26,8 +25,8 @@ pub record Packing (code : Code) : Type 0 where
   -- whatever number of 64 bits goes in, each part of the answer has room
   pub fits : (x : ℕ) → x < 2 ^ 64 → (piece frame : List ℕ) → Fits (receive code (state_in x) piece frame).said
   -- an answer of which each part has room takes 64 bits, bits 9 to 15 of them zero, and is read back
-  pub narrow : (r : Received) → Fits r → (packed r < 2 ^ 64) × (packed r % 2 ^ 16 < 2 ^ 9)
-  pub read_back : (r : Received) → Fits r → said_in (packed r) ≡ r
+  pub narrow : (r : Told) → Fits r → (packed r < 2 ^ 64) × (packed r % 2 ^ 16 < 2 ^ 9)
+  pub read_back : (r : Told) → Fits r → said_in (packed r) ≡ r
   -- what goes in is looked at from bit 16 on
   pub low_bits : (x y : ℕ) → x / 2 ^ 16 ≡ y / 2 ^ 16 → state_in x ≡ state_in y
   -- by example, with parts that all differ
@@ -35,28 +34,22 @@ pub record Packing (code : Code) : Type 0 where
 
 -- ---- Room
 
--- the state in a number of 64 bits has room there
-state_room : (x : ℕ) → x < 2 ^ 64 → ((state_in x).n < 2 ^ 16) × ((state_in x).bytes < 2 ^ 32)
-state_room x h = (omega arith, omega (arith, h))
-
--- what a call says of it has, too
 has_room :
     (code : Code) → Sound code → (x : ℕ) → x < 2 ^ 64 → (piece frame : List ℕ)
     → Fits (receive code (state_in x) piece frame).said
 has_room code ok x h piece frame = go (ℕ_discrete (refusal code (state_in x) (length piece) (length frame)) 0)
   where
     room : ((state_in x).n < 2 ^ 16) × ((state_in x).bytes < 2 ^ 32)
-    room = state_room x h
+    room = (omega arith, omega (arith, h))
 
     go : Dec (refusal code (state_in x) (length piece) (length frame) ≡ 0) → Fits (receive code (state_in x) piece frame).said
     go (yes z) =
         let a = accepted code (state_in x) (length piece) (length frame) z in
         let s = square_small (state_in x).n (row_bytes (state_in x).n) refl (not_longer code ok (state_in x).n a.0) in
-        subst⁻¹ (λ (e : Exit Received). Fits e.said) (receive_taken code (state_in x) piece frame z)
+        rw (receive_taken code (state_in x) piece frame z)
         (omega arith, room.0, omega (arith, a.2, s))
     go (no z) =
-        subst⁻¹ (λ (e : Exit Received). Fits e.said)
-        (receive_refused code (state_in x) piece frame (refusal code (state_in x) (length piece) (length frame)) refl z)
+        rw (receive_refused code (state_in x) piece frame _ refl z)
         (omega (arith, refusal_few code (state_in x) (length piece) (length frame)), room.0, room.1)
 
 -- ---- Read back
@@ -81,7 +74,7 @@ parts k w n b hk hw hn hb =
       unused = omega (arith, hk, hw);
     }
 
-module _ (r : Received) (f : Fits r) where
+module _ (r : Told) (f : Fits r) where
   parts_of : Parts r.number (num r.more) r.state.n r.state.bytes (packed r)
   parts_of = go r.more
     where
@@ -93,25 +86,14 @@ module _ (r : Received) (f : Fits r) where
       go false = parts r.number 0 r.state.n r.state.bytes f.0 (omega arith) f.1 f.2
 
   more_back : eqb (num r.more) 1 ≡ r.more
-  more_back = go r.more
-    where
-      go : (m : Bool) → eqb (num m) 1 ≡ m
-      go true = refl
-      go false = refl
+  more_back = search rules
 
   back : said_in (packed r) ≡ r
-  back =
-      let p = parts_of in
-      ap₂
-      (λ (i j : ℕ). record { state = record { n = i; bytes = j }; number = packed r % 2 ^ 8; more = eqb (packed r / 2 ^ 8 % 2) 1 })
-      p.n_is p.bytes
-      ∙ ap₂ (λ (k : ℕ) (m : Bool). record { state = r.state; number = k; more = m }) p.number
-      (ap (λ (w : ℕ). eqb w 1) p.wanted ∙ more_back)
+  back = let p = parts_of in rw (p.number, p.wanted, p.n_is, p.bytes, more_back) refl
 
 same_state : (x y : ℕ) → x / 2 ^ 16 ≡ y / 2 ^ 16 → state_in x ≡ state_in y
 same_state x y h =
-    let e : x / 2 ^ 32 ≡ y / 2 ^ 32 = omega (arith, h) in
-    ap₂ (λ (i j : ℕ). record { n = i % 2 ^ 16; bytes = j }) h e
+    let e : x / 2 ^ 32 ≡ y / 2 ^ 32 = omega (arith, h) in rw (h, e)
 
 pub packing : (code : Code) → Sound code → Packing code
 packing code ok = record {

@@ -1,9 +1,9 @@
 // State and answer as one number, for C: from the lowest bit on eight for the number, one for whether more is wanted, seven zeros, 16 for
 // n, and 32 for the bytes so far.
-ghost use Rattle.std.specs.Prelude.{◌≡◌, ◌^◌, ◌≤◌};
-ghost use Rattle.receiver.specs.Packed.{state_in, wanted_bit, packed, Fits};
+ghost use Rattle.std.specs.Prelude.{◌≡◌};
+ghost use Rattle.receiver.specs.Packed.{state_in, packed, Fits};
 
-use crate::state::{Received, State};
+use crate::state::State;
 
 const WANTED: u64 = 0x100;
 
@@ -11,7 +11,7 @@ const N_START: u64 = 0x1_0000;
 
 const BYTES_START: u64 = 0x1_0000_0000;
 
-// The low 16 bits, which are what the last call said, are not looked at.
+// The low 16 bits, which are what the last call said, are not looked at: no `From`, which is for what loses nothing.
 pub fn state_in(x: u64) -> State
     ensures { result ≡ state_in x }
 {
@@ -21,20 +21,11 @@ pub fn state_in(x: u64) -> State
     }
 }
 
-fn wanted_bit(more: bool) -> u64
-    ensures { (result ≡ wanted_bit more) × (result ≤ 2 ^ 8) }
+// What a call said, and the state after it.
+pub fn packed(state: State, number: u32, more: bool) -> u64
+    requires { Fits (record { state = state; number = number; more = more }) }
+    ensures { result ≡ packed (record { state = state; number = number; more = more }) }
 {
-    if more {
-        return WANTED;
-    }
-    0
-}
-
-pub fn packed(r: Received) -> u64
-    requires { Fits r }
-    ensures { result ≡ packed r }
-{
-    let state = r.state;
-    let said = r.number as u64 + wanted_bit(r.more);
-    said + state.n as u64 * N_START + state.bytes as u64 * BYTES_START
+    let wanted = if more { WANTED } else { 0 };
+    u64::from(number) + wanted + state.n as u64 * N_START + state.bytes as u64 * BYTES_START
 }

@@ -1,6 +1,7 @@
 // Squares copied byte by byte, their spare bits zero.
 ghost use Rattle.std.specs.Prelude.{◌≡◌, ◌*◌, ◌<◌, ◌≤◌, eqb, length};
 ghost use Rattle.rules.specs.Codes.{length_limit};
+ghost use Rattle.rules.specs.Frames.{row};
 ghost use Rattle.rules.specs.Bits.{row_bytes, square_bytes, frame_of, bytes_of, byte_of, word_of, spare_ones};
 ghost use Rattle.laws.specs.Turns.{cornered};
 
@@ -10,7 +11,7 @@ use word::sizes::row_bytes;
 // Byte b of row i of the corner of m rows and m columns, in a square of n; zero past the corner.
 fn corner_byte(m: usize, n: usize, s: &[u8], i: usize, b: usize) -> u8
     requires { (m ≤ n) × (n ≤ length_limit) × (b ≤ length_limit) × (length s.now ≡ square_bytes n) }
-    ensures { (i < m → result ≡ byte_of (word_of m s.now (i * row_bytes n * 8)) b) × (m ≤ i → result ≡ 0) }
+    ensures { result ≡ byte_of (row (cornered m m (frame_of n s.now)) i) b }
 {
     if m <= i {
         return 0;
@@ -25,8 +26,8 @@ pub fn copy_corner(m: usize, n: usize, from: &[u8], k: usize, to: &mut [u8])
     ensures { to.new ≡ bytes_of k (cornered m k (frame_of n from.now)) }
 {
     let wide = row_bytes(k);
-    for p in 0..to.len() {
-        to[p] = corner_byte(m, n, from, p / wide, p % wide);
+    for (p, byte) in to.iter_mut().enumerate() {
+        *byte = corner_byte(m, n, from, p / wide, p % wide);
     }
 }
 
@@ -36,10 +37,5 @@ pub fn is_packed(n: usize, s: &[u8]) -> bool
     ensures { result ≡ eqb (spare_ones n s.now) 0 }
 {
     let wide = row_bytes(n);
-    for p in 0..s.len() {
-        if corner_byte(n, n, s, p / wide, p % wide) != s[p] {
-            return false;
-        }
-    }
-    true
+    s.iter().enumerate().all(|(p, byte)| *byte == corner_byte(n, n, s, p / wide, p % wide))
 }

@@ -13,12 +13,7 @@ fn is_ones(n: usize, s: &[u8], start: usize) -> bool
     requires { (n ≤ length_limit) × (start ≤ most_bits) × (start + n ≤ length s.now * 8) }
     ensures { result ≡ ones_at n s.now start }
 {
-    for j in 0..n {
-        if bit(s, start + j) == 0 {
-            return false;
-        }
-    }
-    true
+    (0..n).all(|j| bit(s, start + j) == 1)
 }
 
 // Whether all code bits of n rows of n bits are ones. The first that is not ends the search.
@@ -27,10 +22,5 @@ pub fn is_erased(n: usize, s: &[u8]) -> bool
     ensures { result ≡ is_erased n (frame_of n s.now) }
 {
     let wide = row_bytes(n) * 8;
-    for i in 0..n {
-        if !is_ones(n, s, i * wide) {
-            return false;
-        }
-    }
-    true
+    (0..n).all(|i| is_ones(n, s, i * wide))
 }

@@ -1,4 +1,3 @@
 -- What the contracts of the text's functions cite.
-pub mod Find
 pub mod Laid
 pub mod Read

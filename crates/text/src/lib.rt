@@ -1,8 +1,7 @@
-// Texts in lent buffers: compared, digits, hex and fields read, words, numbers and hex written.
+// Texts: digits, hex and fields read; words, numbers and hex written on a page.
 #![tactic(auto)]
 
-pub mod compare;
 pub mod hex;
 pub mod number;
+pub mod page;
 pub mod record;
-pub mod write;

@@ -6,47 +6,30 @@ ghost use Rattle.text.specs.Read.{decimal_of, digits_of};
 // The digits that a number has room for.
 pub const MOST_DIGITS: usize = 9;
 
-// What a field in decimal says.
-#[derive(Clone, Copy)]
-pub(crate) enum Decimal {
-    Value(usize),
-    Bad,
-}
-
 // One digit or more, no more than there is room for; a first digit 0 is the only one.
-pub(crate) fn number(s: &[u8]) -> Decimal
+pub(crate) fn number(s: &[u8]) -> Option<usize>
     ensures { result ≡ decimal_of s.now }
 {
-    let digits = s.len();
-    if digits == 0 {
-        return Decimal::Bad;
+    if s.is_empty() || s.len() > MOST_DIGITS {
+        return None;
     }
-    if digits > MOST_DIGITS {
-        return Decimal::Bad;
-    }
-    if digits > 1 {
-        if s[0] == b'0' {
-            return Decimal::Bad;
-        }
+    if s.len() > 1 && s[0] == b'0' {
+        return None;
     }
     digits_value(s)
 }
 
 // The value of no more digits than there is room for.
-fn digits_value(s: &[u8]) -> Decimal
+fn digits_value(s: &[u8]) -> Option<usize>
     requires { length s.now ≤ most_digits }
     ensures { result ≡ digits_of 0 s.now }
 {
-    let mut v = 0;
-    for i in 0..s.len() {
-        let d = s[i];
-        if d < b'0' {
-            return Decimal::Bad;
+    let mut value = 0;
+    for &digit in s {
+        if !digit.is_ascii_digit() {
+            return None;
         }
-        if d > b'9' {
-            return Decimal::Bad;
-        }
-        v = v * 10 + (d - b'0') as usize;
+        value = value * 10 + (digit - b'0') as usize;
     }
-    Decimal::Value(v)
+    Some(value)
 }

@@ -2,3 +2,7 @@
 pub mod Demands
 -- Laws of a word's code
 pub mod SaidLaws
+-- Laws of the refusals
+pub mod RefusedLaws
+-- Laws of the answers
+pub mod AnswerLaws

@@ -2,13 +2,12 @@
 ghost use Rattle.std.specs.Prelude.{◌≡◌, ◌≤◌, ◌<◌};
 ghost use Rattle.word.specs.Said.{answer_of};
 ghost use Rattle.word.specs.Locates.{Locates};
-ghost use Rattle.algebra.specs.Field256.{small_marking};
 ghost use Rattle.rules.specs.Codes.{small_code};
 ghost use Rattle.laws.specs.Located.{checks_end, located};
 
-use places::{lone, mark_of, pair};
+use places::{Two, lone, mark_of, pair};
 
-#[derive(Clone, Copy)]
+#[derive(Clone, Copy, Debug, PartialEq, Eq)]
 pub enum Answer {
     Codeword,
     OnePlace(usize),
@@ -17,62 +16,33 @@ pub enum Answer {
 }
 
 // An odd number of places: one, or more than two.
-fn odd_places(marks: &[u32; 255], logs: &[u8; 256], n: usize, w: u32) -> Answer
-    requires shortest_le_n { (small_code.shortest ≤ n) × (n ≤ small_code.longest) }
-    requires marks_value { (marks.now ≡ small_marking.marks) × (logs.now ≡ small_marking.logs) }
-    ensures { Locates n 1 w result }
+#[tactic(auto, using(laws::proofs::LocatedLaws::odd_one, laws::proofs::LocatedLaws::odd_beyond))]
+fn odd_places(n: usize, mark: u32) -> Answer
+    requires { (small_code.shortest ≤ n) × (n ≤ small_code.longest) }
+    ensures { Locates n 1 mark result }
 {
-    let e = lone(marks, logs, n - 1, w);
-    if n - 1 <= e {
-        return Answer::Beyond;
+    match lone(n - 1, mark) {
+        Some(exponent) => Answer::OnePlace(n - 2 - exponent),
+        None => Answer::Beyond,
     }
-    let p = n - 2 - e;
-    Answer::OnePlace(p)
 }
 
 // An even number of places: the parity bit and one other, two others, or more than two.
-fn even_places(marks: &[u32; 255], logs: &[u8; 256], halves: &[u8; 256], n: usize, w: u32) -> Answer
-    requires shortest_le_n { (small_code.shortest ≤ n) × (n ≤ small_code.longest) }
-    requires marks_value { (marks.now ≡ small_marking.marks) × (logs.now ≡ small_marking.logs) × (halves.now ≡ small_marking.halves) }
-    ensures { Locates n 0 w result }
+#[tactic(auto, using(laws::proofs::LocatedLaws::even_one, laws::proofs::LocatedLaws::even_two, laws::proofs::LocatedLaws::even_beyond))]
+fn even_places(n: usize, mark: u32) -> Answer
+    requires { (small_code.shortest ≤ n) × (n ≤ small_code.longest) }
+    ensures { Locates n 0 mark result }
 {
-    let e = lone(marks, logs, n - 1, w);
-    if e < n - 1 {
-        let p = n - 2 - e;
-        return Answer::TwoPlaces(p, n - 1);
+    if let Some(exponent) = lone(n - 1, mark) {
+        return Answer::TwoPlaces(n - 2 - exponent, n - 1);
     }
-    let two = pair(marks, logs, halves, n - 1, w);
-    if n - 1 <= two.high {
-        return Answer::Beyond;
-    }
-    let p = n - 2 - two.high;
-    let q = n - 2 - two.low;
-    Answer::TwoPlaces(p, q)
-}
-
-// What `locate` answers to checks that are not zero, by tables that a caller has taken.
-pub fn wrong_places(
-    marks: &[u32; 255],
-    logs: &[u8; 256],
-    halves: &[u8; 256],
-    n: usize,
-    checks: u32,
-) -> Answer
-    requires shortest_le_n { (small_code.shortest ≤ n) × (n ≤ small_code.longest) × (1 ≤ checks) × (checks < checks_end small_code) }
-    requires marks_value { (marks.now ≡ small_marking.marks) × (logs.now ≡ small_marking.logs) × (halves.now ≡ small_marking.halves) }
-    ensures { result ≡ answer_of (located small_code n checks) }
-{
-    if checks == 1 {
-        return Answer::OnePlace(n - 1);
-    }
-    let w = mark_of(marks, checks / 2);
-    if checks % 2 == 1 {
-        odd_places(marks, logs, n, w)
-    } else {
-        even_places(marks, logs, halves, n, w)
+    match pair(n - 1, mark) {
+        Some(Two { high, low }) => Answer::TwoPlaces(n - 2 - high, n - 2 - low),
+        None => Answer::Beyond,
     }
 }
 
+#[tactic(auto, using(laws::proofs::LocatedLaws::located_zero, laws::proofs::LocatedLaws::located_last))]
 pub fn locate(n: usize, checks: u32) -> Answer
     requires { (small_code.shortest ≤ n) × (n ≤ small_code.longest) × (checks < checks_end small_code) }
     ensures { result ≡ answer_of (located small_code n checks) }
@@ -80,8 +50,13 @@ pub fn locate(n: usize, checks: u32) -> Answer
     if checks == 0 {
         return Answer::Codeword;
     }
-    let marks = field::marks::table();
-    let logs = field::logs::table();
-    let halves = field::halves::table();
-    wrong_places(&marks, &logs, &halves, n, checks)
+    if checks == 1 {
+        return Answer::OnePlace(n - 1);
+    }
+    let mark = mark_of(checks / 2);
+    if checks % 2 == 1 {
+        odd_places(n, mark)
+    } else {
+        even_places(n, mark)
+    }
 }

@@ -5,37 +5,47 @@ ghost use Rattle.rules.specs.Words.{answer, mend};
 ghost use Rattle.laws.specs.InPlace.{word_at, put, Inside};
 ghost use Rattle.word.specs.Said.{answer_of, changes};
 
+use crate::at::WordAt;
 use crate::bits::flip;
-use crate::checks::checks;
 use crate::locate::{Answer, locate};
 
-// Puts the codeword within two in the word's place, or leaves the word.
-pub fn mend(n: usize, s: &mut [u8], start: usize, step: usize) -> Answer
-    requires { Inside small_code n s.old start step }
-    ensures value { result ≡ answer_of (answer small_code n (word_at n s.old start step)) }
-    ensures s_after { s.new ≡ put n s.old start step (mend small_code n (word_at n s.old start step)) }
-{
-    let answer = locate(n, checks(n, s, start, step));
-    match answer {
-        Answer::Codeword => {}
-        Answer::OnePlace(p) => flip(s, start + p * step),
-        Answer::TwoPlaces(p, q) => {
-            flip(s, start + p * step);
-            flip(s, start + q * step);
-        }
-        Answer::Beyond => {}
+impl WordAt {
+    fn answer(self, bytes: &[u8]) -> Answer
+        requires { Inside small_code self.n bytes.now self.start self.step }
+        ensures { result ≡ answer_of (answer small_code self.n (word_at self.n bytes.now self.start self.step)) }
+    {
+        locate(self.n, self.checks(bytes))
     }
-    answer
+
+    // Puts the codeword within two in the word's place, or leaves the word.
+    #[tactic(auto, using(crate::proofs::AnswerLaws::one_inside, crate::proofs::AnswerLaws::low_inside, crate::proofs::AnswerLaws::high_inside))]
+    pub fn mend(self, bytes: &mut [u8]) -> Answer
+        requires { Inside small_code self.n bytes.old self.start self.step }
+        ensures value { result ≡ answer_of (answer small_code self.n (word_at self.n bytes.old self.start self.step)) }
+        ensures bytes_after { bytes.new ≡ put self.n bytes.old self.start self.step (mend small_code self.n (word_at self.n bytes.old self.start self.step)) }
+    {
+        let answer = self.answer(bytes);
+        match answer {
+            Answer::OnePlace(p) => flip(bytes, self.place(p)),
+            Answer::TwoPlaces(p, q) => {
+                flip(bytes, self.place(p));
+                flip(bytes, self.place(q));
+            }
+            Answer::Codeword | Answer::Beyond => {}
+        }
+        answer
+    }
 }
 
-// How many places an answer changes.
-pub fn changes(answer: Answer) -> usize
-    ensures { result ≡ changes answer }
-{
-    match answer {
-        Answer::Codeword => 0,
-        Answer::OnePlace(_) => 1,
-        Answer::TwoPlaces(_, _) => 2,
-        Answer::Beyond => 0,
+impl Answer {
+    // How many places it changes.
+    pub fn changes(self) -> usize
+        ensures { result ≡ changes self }
+    {
+        match self {
+            Answer::Codeword | Answer::Beyond => 0,
+            Answer::OnePlace(_) => 1,
+            Answer::TwoPlaces(_, _) => 2,
+        }
     }
 }

@@ -2,76 +2,39 @@
 #![tactic(auto)]
 
 ghost use Rattle.textrules.specs.Factory.{data_header};
-ghost use Rattle.lines.specs.Stream.{at_start};
 ghost use Rattle.lines.specs.Calls.{LeavesSome};
 
-use factory::say::say;
+use factory::say::Writer;
 use factory::sizes::{LONGEST_LINE, ROOM};
-use input::{PIECE, advance, begin};
-use lines::state::State;
+use input::program::{Failure, run};
+use lines::state::{State, start};
 use std::io::{Read, Write};
 
-// The state of the lines at last; whether the input has ended, which it has not where reading failed; and whether all of the
-// dump so far could be written.
-#[derive(Clone, Copy)]
-struct End {
-    state: State,
-    at_end: bool,
-    written: bool,
-}
-
-// Writes what each line gives. A proved loop has to end: it counts down from a number of turns that no run uses up.
+// Writes what each line gives.
 fn write_dump<R: Read, W: Write>(
     reader: &mut R,
     writer: &mut W,
+    state: &mut State,
     line: &mut [u8; LONGEST_LINE],
-) -> End
-    ensures { LeavesSome data_header at_start line.old result.state line.new }
+) -> Result<(), Failure>
+    ensures { LeavesSome data_header state.old line.old state.new line.new }
 {
-    let mut piece = [0u8; PIECE];
-    let mut out = [0u8; ROOM];
-    let mut current = begin();
-    let mut turns = u64::MAX;
-    while turns > 0 {
-        let next = advance(current, reader, &mut piece, b"data\t1", line);
-        let event = next.event;
-        current = next.input;
-        let n = say(event, line, &mut out);
-        let written = writer.write_all(&out[0..n]).is_ok();
-        if !written || !next.more {
-            let state = current.state;
-            return End {
-                state,
-                at_end: next.at_end,
-                written,
-            };
-        }
-        turns -= 1;
-    }
-    let state = current.state;
-    End {
-        state,
-        at_end: false,
-        written: true,
-    }
+    run::<Writer, R, W, LONGEST_LINE, ROOM>(reader, writer, state, line)
 }
 
-// What failed: writing, or else reading. Where this can't be written either, nobody is told.
-fn complain<W: Write>(writer: &mut W, written: bool) -> bool {
-    if written {
-        return writer
-            .write_all(b"write: reading failed: the dump ends with the last whole line\n")
-            .is_ok();
+fn message(failure: Failure) -> &'static [u8] {
+    match failure {
+        Failure::Reading => b"write: reading failed: the dump ends with the last whole line\n",
+        Failure::Writing => b"write: writing failed: the dump is not complete\n",
     }
-    writer
-        .write_all(b"write: writing failed: the dump is not complete\n")
-        .is_ok()
 }
 
 fn main(rt: HostRuntime) {
+    let mut state = start();
     let mut line = [0u8; LONGEST_LINE];
-    let end = write_dump(&mut rt.stdin(), &mut rt.stdout(), &mut line);
-    if !end.at_end || !end.written {
-        complain(&mut rt.stderr(), end.written);
+    let result = write_dump(&mut rt.stdin(), &mut rt.stdout(), &mut state, &mut line);
+    if let Err(failure) = result {
+        // Where this can't be written either, nobody is told.
+        rt.stderr().write_all(message(failure)).is_ok();
     }
 }

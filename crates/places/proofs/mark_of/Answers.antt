@@ -1,22 +1,20 @@
--- `places::mark_of`: the mark, bit after bit of the remainder.
-use Prim.Native.Nat.{◌%◌}
-use native.Mathlib.Omega.{arith}
-use Rattle.algebra.specs.Xor.{◌⊕◌}
-use Rattle.algebra.specs.Field256.{small_marking}
-use Rattle.algebra.proofs.RegisterLaws.{digit_lt}
-use Rattle.laws.proofs.LocateSteps.{marked_none, marked_one, marked_all}
+-- `places::mark_of`: the fold adds the mark of each of the remainder's ones.
+use mathlib.Core.Path.{refl, ◌∙◌}
+use Prim.Native.Nat.{◌/◌, ◌%◌, ◌*◌, ◌^◌}
 use borrow.Author.Rules.{rules}
+use Rattle.std.specs.List.{range_with_len}
+use Rattle.std.proofs.lemmas.Iterator.{YieldsList-from_range}
+use Rattle.std.proofs.lemmas.Iterator.Consumers.{fold_from_yields_List}
+use Rattle.algebra.specs.Xor.{◌⊕◌}
+use Rattle.algebra.specs.Marking.{mark_at}
+use Rattle.algebra.specs.Field256.{small_marking}
+use Rattle.laws.proofs.LocateSteps.{all_added}
 use Rattle.places.proofs.mark_of.Goals as goal
 
-pub loop-i-init : goal.loop-i-init
-loop-i-init c = (search rules, marked_none small_marking _)
-
-pub overflow_mul-w : goal.overflow_mul-w
-overflow_mul-w c = record { fits = digit_lt (c.loop-i.left % 2) (omega arith) (search rules) }
-
-pub loop-i-preserved : goal.loop-i-preserved
-unfolding ◌⊕◌
-loop-i-preserved c = (search rules, marked_one small_marking _ _ _ _ _ (omega arith) c.mark_at.ensures c.loop-i.invariant.1)
-
 pub returns : goal.returns
-returns c = marked_all small_marking _ _ _ _ (omega arith) c.loop-i.invariant.1
+unfolding ◌⊕◌
+returns c =
+    fold_from_yields_List {v = λ x. x} {all = range_with_len 0 16} _
+    (λ w i. w ⊕ c.args.remainder / 2 ^ i % 2 * mark_at small_marking i) 0 c.fold.result c.fold.ensures.ran
+    (YieldsList-from_range 0 16 16 refl refl) (λ a x b q z. search rules)
+    ∙ all_added small_marking c.args.remainder

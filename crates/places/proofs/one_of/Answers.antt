@@ -6,12 +6,10 @@ use Rattle.laws.proofs.LocateSteps.{no_power, half_one}
 use Rattle.places.proofs.one_of.Goals as goal
 
 pub returns-then-power-eq0 : goal.returns-then-power-eq0
-returns-then-power-eq0 c = no_power small_marking fit256 c.args.w (sym c.power_part-power.ensures.0 ∙ c.if-power-eq0.true)
+returns-then-power-eq0 c = no_power small_marking fit256 c.args.mark (sym c.power_part-power.ensures ∙ c.if-power-eq0.true)
 
 pub returns : goal.returns
 returns c =
-    let b = c in
-    let d = b in
-    half_one small_marking fit256 d.args.w _ _ _ _ _ d.power_part-power.ensures.0 d.if-power-eq0.false
-    b.exponent-l.ensures.0 b.cube_part.ensures.0 b.slot.ensures.1 c.reduced.ensures.0
+    half_one small_marking fit256 c.args.mark _ _ _ _ _ c.power_part-power.ensures c.if-power-eq0.false
+    c.exponent-log.ensures.0 c.cube_part.ensures c.slot.ensures.1 c.reduced.ensures.0
     (rw c.half.ensures.0 at c.reduced.ensures.1)

@@ -3,26 +3,18 @@ use native.Mathlib.Omega.{arith}
 use Rattle.algebra.specs.Xor.{◌⊕◌}
 use Rattle.algebra.specs.Field256.{small_marking}
 use Rattle.algebra.proofs.Field256Laws.{fit256}
-use Rattle.laws.proofs.LocateSteps.{pair_far, pair_above, pair_below}
+use Rattle.laws.proofs.LocateSteps.{pair_found, pair_alone}
 use Rattle.places.proofs.pair.Goals as goal
 
-pub returns-then-bound-e : goal.returns-then-bound-e
-returns-then-bound-e c =
-    let d = c in
-    pair_far small_marking fit256 d.args.bound d.args.w _ d.requires.3 c.one_of-e.ensures d.args.bound c.if-bound-e.true
-
-pub returns-then-e-f : goal.returns-then-e-f
+pub returns : goal.returns
 unfolding ◌⊕◌
-returns-then-e-f c =
-    let b = c in
-    let d = b in
-    pair_above small_marking fit256 d.args.bound d.args.w _ d.requires.3 b.one_of-e.ensures _ _ c.mark_at.ensures
-    (omega (arith, b.if-bound-e.false)) c.lone-f.ensures c.if-e-f.true
+returns c =
+    pair_found small_marking fit256 c.args.bound c.args.mark _ c.requires c.in_ok-one.ensures _ c.mark_at.ensures _
+    c.in_ok-other.ensures _ _ (omega (arith, c.if-bound-one.false)) c.max.ensures c.min.ensures
 
-pub returns-else-e-f : goal.returns-else-e-f
+pub returns-in_err-other : goal.returns-in_err-other
 unfolding ◌⊕◌
-returns-else-e-f c =
-    let b = c in
-    let d = b in
-    pair_below small_marking fit256 d.args.bound d.args.w _ d.requires.3 b.one_of-e.ensures _ _ c.mark_at.ensures
-    (omega (arith, b.if-bound-e.false)) c.lone-f.ensures (omega (arith, c.if-e-f.false))
+returns-in_err-other c =
+    rw c.from_residual-in_err-other.ensures
+    (pair_alone small_marking fit256 c.args.bound c.args.mark _ c.requires c.in_ok-one.ensures _ c.mark_at.ensures
+    c.in_err-other.ensures)

@@ -1,22 +1,29 @@
 -- `dump::line::put_reported` meets its contract.
-use mathlib.Core.Bool.{not}
-use mathlib.Core.Path.{ap}
-use Rattle.dump.proofs.LineLaws.{head_questioned, frame_questioned, record_reported}
-use Rattle.textrules.specs.Dump.{longest_line}
-use Rattle.text.proofs.LastFieldLaws.{digits_short, hex_known}
+use mathlib.Core.Path.{sym, ap, ◌∙◌}
+use mathlib.Core.List.{◌++◌}
+use native.Mathlib.Omega.{arith}
+use Rattle.textrules.specs.Programs.{questioned}
+use Rattle.textrules.specs.Dump.{record_text, line_text}
+use Rattle.text.proofs.RecordLaws.{line_unread, line_within, line_not_hex, line_record}
 use Rattle.dump.proofs.line.put_reported.Goals as goal
 
-pub returns-then-not-head : goal.returns-then-not-head
-returns-then-not-head c = let a = c.args in head_questioned a.line.now c.record_head-head.result c.record_head-head.ensures.value a.number _ _ _ _ c.if-not-head.true c.put_questioned.ensures
+pub returns-in_default : goal.returns-in_default
+returns-in_default c =
+    let a = c.args in
+    c.put_questioned.ensures ∙ ap (λ t. t ++ questioned a.number) c.requires.empty ∙ ap (line_text a.number) (sym (line_unread a.line.now c.in_default.ensures))
 
 pub returns-then-not-is_hex : goal.returns-then-not-is_hex
-returns-then-not-is_hex c = let a = c.args in frame_questioned a.line.now c.record_head-head.result c.record_head-head.ensures.value a.number _ _ _ _ c.if-not-head.false c.is_hex.result c.is_hex.ensures (ap not c.if-not-is_hex.true) c.put_questioned-then-not-is_hex.ensures
+returns-then-not-is_hex c =
+    let a = c.args in
+    let bad = line_not_hex a.line.now c.in-Some.ensures (sym c.is_hex.ensures ∙ c.if-not-is_hex.true) in
+    c.put_questioned-then-not-is_hex.ensures ∙ ap (λ t. t ++ questioned a.number) c.requires.empty ∙ ap (line_text a.number) (sym bad)
 
-pub decode_digits-decoded-requires : goal.decode_digits-decoded-requires
-decode_digits-decoded-requires c = record {
-  digits_value = hex_known _ _ c.is_hex.ensures (ap not c.if-not-is_hex.false);
-  digits_len_bound = digits_short c.args.line.now c.record_head-head.result.frame longest_line c.requires.line_len_bound;
-}
+pub decode_digits-decoded-requires-clause-digits_len_bound : goal.decode_digits-decoded-requires-clause-digits_len_bound
+decode_digits-decoded-requires-clause-digits_len_bound c = omega (arith, line_within c.args.line.now c.in-Some.ensures, c.requires.line_len_bound)
 
 pub returns : goal.returns
-returns c = let a = c.args in record_reported a.line.now c.record_head-head.result c.record_head-head.ensures.value a.number _ _ _ _ c.if-not-head.false c.is_hex.result c.is_hex.ensures c.requires.line_len_bound (ap not c.if-not-is_hex.false) c.decode_digits-decoded.result c.decode_digits-decoded.ensures c.put_decoded.ensures
+returns c =
+    let a = c.args in
+    let h = c.in-Some.head in
+    let says = line_record a.line.now c.in-Some.ensures c.requires.line_len_bound (sym c.is_hex.ensures ∙ c.if-not-is_hex.false) in
+    c.put_decoded.ensures ∙ ap (record_text h.number) c.decode_digits-decoded.ensures ∙ ap (line_text a.number) (sym says)

@@ -1,21 +1,16 @@
--- `dump::report::put_line` meets its contract.
-use native.Mathlib.Omega.{arith}
-use Rattle.text.proofs.LaidLaws.{lays_then, digits_few}
+-- `dump::report::put_line` meets its contract: a machine word has few digits.
+use Rattle.std.proofs.Common.{length-append, arith}
+use Rattle.text.proofs.DecimalLaws.{digits_few}
 use Rattle.dump.proofs.report.put_line.Goals as goal
 
-pub put_decimal-a-requires : goal.put_decimal-a-requires
-put_decimal-a-requires c = let d = digits_few _ c.ranges.number.fits in omega arith
+pub put_decimal-requires : goal.put_decimal-requires
+put_decimal-requires c = (omega arith, grind (arith, length-append, digits_few _ c.ranges.number.fits))
 
-pub put_word-b-requires : goal.put_word-b-requires
-put_word-b-requires c = let d = digits_few _ c.ranges.number.fits in omega arith
+pub put_word-requires : goal.put_word-requires
+put_word-requires c = (omega arith, grind (arith, length-append, digits_few _ c.ranges.number.fits))
 
-pub put-c-requires : goal.put-c-requires
-put-c-requires c = let d = digits_few _ c.ranges.number.fits in omega arith
+pub put-requires : goal.put-requires
+put-requires c = (omega arith, grind (arith, length-append, digits_few _ c.ranges.number.fits))
 
 pub put_counts-requires : goal.put_counts-requires
-put_counts-requires c = let d = digits_few _ c.ranges.number.fits in omega arith
-
-pub returns : goal.returns
-returns c =
-    lays_then _ _ _ _ _ _ _ _ c.put_decimal-a.ensures
-    (lays_then _ _ _ _ _ _ _ _ c.put_word-b.ensures (lays_then _ _ _ _ _ _ _ _ c.put-c.ensures c.put_counts.ensures))
+put_counts-requires c = grind (arith, length-append, digits_few _ c.ranges.number.fits)

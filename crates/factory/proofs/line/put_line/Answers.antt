@@ -1,24 +1,36 @@
 -- `factory::line::put_line` meets its contract.
-use mathlib.Core.Bool.{not}
-use mathlib.Core.Path.{ap}
-use borrow.Author.Rules.{rules}
-use Rattle.factory.proofs.LineLaws.{opening_questioned, digits_questioned, number_short, record_written}
-use Rattle.text.proofs.LastFieldLaws.{digits_short, hex_known}
-use Rattle.textrules.specs.Factory.{longest_data}
+use mathlib.Core.Path.{sym, ap, ◌∙◌}
+use mathlib.Core.List.{◌++◌}
+use native.Mathlib.Omega.{arith}
+use Rattle.textrules.specs.Programs.{questioned}
+use Rattle.textrules.specs.Factory.{data_text}
+use Rattle.text.proofs.DataLaws.{data_unopened, data_within, data_not_hex, data_record}
+use Rattle.factory.proofs.LineLaws.{number_short}
 use Rattle.factory.proofs.line.put_line.Goals as goal
 
-pub returns-then-not-opening : goal.returns-then-not-opening
-returns-then-not-opening c = opening_questioned c.args.line.now c.line_opening-opening.result c.line_opening-opening.ensures.value c.args.number _ _ _ c.if-not-opening.true c.put_questioned.ensures
+pub returns-in_default : goal.returns-in_default
+returns-in_default c =
+    let a = c.args in
+    c.put_questioned.ensures ∙ ap (λ t. t ++ questioned a.number) c.requires.empty ∙ ap (data_text a.number) (sym (data_unopened a.line.now c.in_default.ensures))
 
 pub returns-then-not-is_hex : goal.returns-then-not-is_hex
-returns-then-not-is_hex c = digits_questioned c.args.line.now c.line_opening-opening.result c.line_opening-opening.ensures.value c.if-not-opening.false c.is_hex.result c.is_hex.ensures c.args.number _ _ _ (ap not c.if-not-is_hex.true) c.put_questioned-then-not-is_hex.ensures
+returns-then-not-is_hex c =
+    let a = c.args in
+    let bad = data_not_hex a.line.now c.in-Some.ensures (sym c.is_hex.ensures ∙ c.if-not-is_hex.true) in
+    c.put_questioned-then-not-is_hex.ensures ∙ ap (λ t. t ++ questioned a.number) c.requires.empty ∙ ap (data_text a.number) (sym bad)
 
 pub put_digits-requires : goal.put_digits-requires
-put_digits-requires c = record {
-  dump_room_in_bounds = (search rules, number_short c.args.line.now c.line_opening-opening.result c.line_opening-opening.ensures.value c.if-not-opening.false c.is_hex.result c.is_hex.ensures c.requires.line_len_bound (ap not c.if-not-is_hex.false));
-  digits_value = hex_known _ _ c.is_hex.ensures (ap not c.if-not-is_hex.false);
-  digits_len_bound = digits_short c.args.line.now c.line_opening-opening.result.after longest_data c.requires.line_len_bound;
-}
+put_digits-requires c =
+    let hex = sym c.is_hex.ensures ∙ c.if-not-is_hex.false in
+    record {
+      empty = c.requires.empty;
+      nine_digits = number_short c.args.line.now (data_record c.args.line.now c.in-Some.ensures c.requires.line_len_bound hex);
+      digits_value = hex;
+      digits_len_bound = omega (arith, data_within c.args.line.now c.in-Some.ensures, c.requires.line_len_bound);
+    }
 
 pub returns : goal.returns
-returns c = record_written c.args.line.now c.line_opening-opening.result c.line_opening-opening.ensures.value c.if-not-opening.false c.is_hex.result c.is_hex.ensures c.requires.line_len_bound (ap not c.if-not-is_hex.false) c.args.number _ _ _ c.put_digits.ensures
+returns c =
+    let a = c.args in
+    let says = data_record a.line.now c.in-Some.ensures c.requires.line_len_bound (sym c.is_hex.ensures ∙ c.if-not-is_hex.false) in
+    c.put_digits.ensures ∙ ap (data_text a.number) (sym says)

@@ -8,8 +8,6 @@ use Rattle.rules.specs.Bits.{frame_of}
 use Rattle.rules.proofs.Laws.Shape.{frame_of-square}
 use Rattle.laws.specs.Turns.{Whole}
 use Rattle.laws.proofs.PassStepLaws.{passing_whole, passing_none, passing_more, passing_all, repairing_none, repairing_more, frame_not, ended_clean, Made, ended_repaired, ended_stuck, ended_spent}
-use Rattle.frame.specs.declared.decode.Ending.TheVariants.{Clean}
-use Rattle.frame.specs.Said.{uncounted}
 use Rattle.frame.proofs.ReportLaws.{reported}
 use Rattle.frame.proofs.decode.repair.Goals as goal
 use Rattle.frame.proofs.decode.repair.Goals.{
@@ -23,10 +21,8 @@ returns-then-rows-columns-eq0 c =
     let b = c in
     let q = b in
     let k = q.requires.0 in
-    let d =
-    reported {x = uncounted Clean} refl
-    (ended_clean small_code _ _ _ q.args.s.now _ _ k.0 k.2 b.bad-rows.ensures.0 b.bad-columns.ensures.0 c.if-rows-columns-eq0.true) refl in
-    (c.uncounted.ensures ∙ d.0, d.1)
+    reported refl
+    (ended_clean small_code _ _ _ q.args.s.now _ _ k.0 k.2 b.bad-rows.ensures.0 b.bad-columns.ensures.0 c.if-rows-columns-eq0.true) refl
 
 pub loop-rows-init : goal.loop-rows-init
 loop-rows-init c =

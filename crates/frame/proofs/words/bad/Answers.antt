@@ -1,37 +1,31 @@
--- `words::bad` meets its contract: the loop has counted the words before `k` that are not codewords.
-use mathlib.Core.Path.{◌≡◌, ap, ◌∙◌}
+-- `words::bad`: the words that are not codewords are counted.
+use mathlib.Core.Path.{◌≡◌, refl, ◌∙◌}
+use mathlib.Core.Bool.{not}
 use native.Mathlib.Omega.{arith}
-use borrow.Author.Rules.{rules}
+use borrow.Author.Tests.{tests}
+use Rattle.std.proofs.Common.{ℕ, rules}
+use Rattle.std.proofs.lemmas.Iterator.{serves_from_Range, YieldsList-from_range}
+use Rattle.std.proofs.lemmas.Iterator.Consumers.{YieldsList-at, YieldsList-from_filter}
 use Rattle.rules.specs.Codes.{small_code}
-use Rattle.rules.proofs.Laws.SmallCode.{sound_small}
-use Rattle.laws.proofs.PassStepLaws.{bad_first, bad-none, bad_all, bad_more, bad_same, inside_here, checks_here}
+use Rattle.rules.specs.Words.{is_codeword}
+use Rattle.rules.specs.Frames.{bad_rows}
+use Rattle.rules.specs.Bits.{frame_of}
+use Rattle.laws.specs.Turns.{turned, word_in}
+use Rattle.laws.proofs.ChainLaws.{count_from_filter}
+use Rattle.laws.proofs.PassStepLaws.{bad_counted, bad_most}
 use Rattle.frame.proofs.words.bad.Goals as goal
-use Rattle.frame.proofs.words.bad.Goals.{then-checks-ne0, else-checks-ne0}
 
-pub loop-k-init : goal.loop-k-init
-loop-k-init c = (search rules, search rules, bad-none small_code _ _)
-
-pub checks-requires : goal.checks-requires
-checks-requires c =
-    let a = c.args in
-    inside_here small_code a.n a.s.now a.columns _ _ _ c.start.ensures c.step-by.ensures c.loop-k-test.true
-    sound_small c.requires
-
-pub loop-k-preserved : goal.loop-k-preserved
-loop-k-preserved c =
-    let a = c.args in
-    let l = c.loop-k in
-    let is =
-    checks_here small_code a.n a.s.now a.columns l.k _ _ c.start.ensures
-    c.step-by.ensures c.loop-k-test.true _
-    c.checks.ensures.0 in
-    elim c.if-checks-ne0.branch [
-      | then-checks-ne0 w ↦ omega (arith, bad_more small_code _ _ _ _ is w.if-checks-ne0.true)
-      | else-checks-ne0 w ↦ omega (arith, bad_same small_code _ _ _ _ is w.if-checks-ne0.false)
-    ]
+pub count-requires-clause-can : goal.count-requires-clause-can
+count-requires-clause-can c = (tt, tt, serves_from_Range (λ x q k. search rules) (λ i lo hi. search rules))
 
 pub returns : goal.returns
 returns c =
     let a = c.args in
-    let all : c.loop-k.k ≡ a.n = omega arith in
-    (c.loop-k.invariant.2 ∙ ap (bad_first small_code a.n _) all ∙ bad_all small_code _ _, omega arith)
+    let p = λ (k : ℕ). not (is_codeword small_code a.n (word_in a.n a.columns a.s.now k)) in
+    let f = turned a.n a.columns (frame_of a.n a.s.now) in
+    let found : c.count.result ≡ bad_rows small_code a.n f =
+    count_from_filter a.n p c.filter.result c.count.result c.count.ensures.ran
+    (YieldsList-from_filter _ p (YieldsList-at c.filter.ensures.source (YieldsList-from_range 0 a.n a.n refl (omega arith))) c.filter.ensures.closure
+    (λ x b q k. search (rules, tests)))
+    ∙ bad_counted small_code a.n f in
+    (found, omega (arith, found, bad_most small_code a.n f))

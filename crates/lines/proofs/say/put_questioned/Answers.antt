@@ -1,13 +1,10 @@
--- `lines::say::put_questioned` meets its contract.
-use native.Mathlib.Omega.{arith}
-use Rattle.text.proofs.LaidLaws.{lays_then, digits_few}
+-- `lines::say::put_questioned` meets its contract: a machine word has few digits.
+use Rattle.std.proofs.Common.{length-append, arith, rules}
+use Rattle.text.proofs.DecimalLaws.{digits_few}
 use Rattle.lines.proofs.say.put_questioned.Goals as goal
 
-pub put_count-b-requires : goal.put_count-b-requires
-put_count-b-requires c = let d = digits_few _ c.ranges.number.fits in omega arith
+pub put_count-requires : goal.put_count-requires
+put_count-requires g c = (search rules, grind (arith, length-append, digits_few _ c.ranges.number.fits))
 
-pub put-requires : goal.put-requires
-put-requires c = let d = digits_few _ c.ranges.number.fits in omega arith
-
-pub returns : goal.returns
-returns c = lays_then _ _ _ _ _ _ _ _ c.put-a.ensures (lays_then _ _ _ _ _ _ _ _ c.put_count-b.ensures c.put.ensures)
+pub put-requires-2 : goal.put-requires-2
+put-requires-2 g c = (search rules, grind (arith, length-append, digits_few _ c.ranges.number.fits))

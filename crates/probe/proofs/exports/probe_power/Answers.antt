@@ -6,4 +6,4 @@ use Rattle.rules.proofs.Laws.FieldLaws.{marks_power}
 use Rattle.probe.proofs.exports.probe_power.Goals as goal
 
 pub returns : goal.returns
-returns c = c.power_part.ensures.0 ∙ ap (power_part small_marking) c.mark_at.ensures ∙ marks_power c.args.e
+returns c = c.power_part.ensures ∙ ap (power_part small_marking) c.mark_at.ensures ∙ marks_power c.args.e

@@ -1,12 +1,9 @@
--- `corner::copy_corner` meets its contract. The loop's invariant: the first p bytes are those wanted.
-use Prim.Native.Nat.{◌-◌}
-use Rattle.rules.specs.Bits.{square_bytes, frame_of, bytes_of}
+-- `corner::copy_corner`: the first p bytes are those wanted.
+use Rattle.std.proofs.Common.{◌≡◌, ℕ, ◌<◌, get_or}
+use Rattle.rules.specs.Bits.{frame_of}
 use Rattle.laws.specs.Turns.{cornered}
-use Rattle.laws.proofs.CopyLaws.{Agreeing}
+use Rattle.laws.proofs.CornerLaws.{split_byte}
 use Rattle.square.proofs.corner.copy_corner.Given as goal
 
 abbrev pub invariant-loop-p : goal.invariant-loop-p
-invariant-loop-p l = Agreeing (square_bytes l.k) l.p-end l.p l.to (bytes_of l.k (cornered l.m l.k (frame_of l.n l.from)))
-
-abbrev pub decreases-loop-p : goal.decreases-loop-p
-decreases-loop-p l = l.p-end - l.p
+invariant-loop-p l = (q : ℕ) → q < l.p → get_or l.to q 0 ≡ split_byte l.k (cornered l.m l.m (frame_of l.n l.from)) q

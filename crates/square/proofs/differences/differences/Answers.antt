@@ -1,45 +1,41 @@
--- `differences::differences` meets its contract: the loop has counted in the first `i` rows.
-use mathlib.Core.Path.{◌≡◌, ap, ◌∙◌}
-use Prim.Native.Nat.{◌+◌, ◌*◌, ◌≤◌}
+-- `differences::differences`: the rows' counts are summed.
+use mathlib.Core.Path.{refl, ◌∙◌}
 use native.Mathlib.Omega.{arith}
-use borrow.Author.Rules.{rules}
-use Rattle.rules.specs.Bits.{square_bytes}
-use Rattle.laws.specs.InPlace.{most_bytes}
+use borrow.Author.Tests.{tests}
+use Rattle.std.proofs.Common.{ℕ, ◌*◌, rules}
+use Rattle.std.proofs.lemmas.Iterator.{serves_from_Range, YieldsList-from_range, YieldsList-from_map}
+use Rattle.std.proofs.lemmas.Iterator.Consumers.{YieldsList-at}
+use Rattle.laws.specs.InPlace.{differ_at}
+use Rattle.laws.proofs.ChainLaws.{total_from_sum, fits_from_total}
 use Rattle.laws.proofs.CornerLaws.{row_fits}
-use Rattle.laws.proofs.CountLaws.{differ_rows, rows_none, rows_more, rows_all}
+use Rattle.laws.proofs.CountLaws.{rows_all, rows_most}
 use Rattle.square.proofs.differences.differences.Goals as goal
 
-pub loop-i-init : goal.loop-i-init
-loop-i-init c = (search rules, search rules, rows_none _ _ _)
+pub sum-requires-clause-can : goal.sum-requires-clause-can
+sum-requires-clause-can c =
+    let w = c.row_bytes-wide.result in (
+      tt,
+      serves_from_Range (λ x q k. search rules)
+          (λ i lo hi.
+          let inside = row_fits c.args.n w i c.row_bytes-wide.ensures (omega arith) (rw c.map.ensures.source at hi) in search rules),
+    )
 
-pub overflow_mul-i : goal.overflow_mul-i
-overflow_mul-i c =
-    let fits : let n = c.args.n in
-    let w = c.row_bytes-wide.result in
-    (c.loop-i.i * w + w ≤ square_bytes n) × (square_bytes n ≤ most_bytes) = let w = c.row_bytes-wide in
-    row_fits c.args.n w.result c.loop-i.i w.ensures (omega arith) c.loop-i-test.true in
-    omega (arith, fits)
-
-pub row_differences-found-requires : goal.row_differences-found-requires
-row_differences-found-requires c =
-    let fits : let n = c.args.n in
-    let w = c.row_bytes-wide.result in
-    (c.loop-i.i * w + w ≤ square_bytes n) × (square_bytes n ≤ most_bytes) = let w = c.row_bytes-wide in
-    row_fits c.args.n w.result c.loop-i.i w.ensures (omega arith) c.loop-i-test.true in
-    let f = fits in record { le_n = (search rules, search rules, omega arith); n_in_bounds = (omega arith, omega arith) }
-
-pub loop-i-preserved : goal.loop-i-preserved
-loop-i-preserved c =
-    let l = c.loop-i in
-    let r = c.row_differences-found in
+pub sum-requires-clause-fits : goal.sum-requires-clause-fits
+sum-requires-clause-fits c =
     let a = c.args in
-    let more =
-    rows_more a.n a.s.now a.t.now l.i _ _ c.loop-i-test.true c.row_bytes-wide.ensures r.ensures.0 in
-    (search rules, omega (arith, r.ensures.1), ap (λ m. m + r.result) l.invariant.2 ∙ more)
+    let w = c.row_bytes-wide.result in
+    let f = λ (i : ℕ). differ_at a.n a.s.now a.t.now (i * w) in
+    fits_from_total a.n f c.map.result _
+    (YieldsList-from_map _ f (YieldsList-at c.map.ensures.source (YieldsList-from_range 0 a.n a.n refl (omega arith))) c.map.ensures.closure
+    (λ x r q k. search (rules, tests)))
+    (omega (arith, rows_most a.n w a.s.now a.t.now (omega arith)))
 
 pub returns : goal.returns
 returns c =
     let a = c.args in
-    let l = c.loop-i in
-    let all : l.i ≡ a.n = omega arith in
-    l.invariant.2 ∙ ap (differ_rows a.n a.s.now a.t.now) all ∙ rows_all a.n a.s.now a.t.now
+    let w = c.row_bytes-wide.result in
+    let f = λ (i : ℕ). differ_at a.n a.s.now a.t.now (i * w) in
+    total_from_sum a.n f c.map.result c.sum.result c.sum.ensures.ran
+    (YieldsList-from_map _ f (YieldsList-at c.map.ensures.source (YieldsList-from_range 0 a.n a.n refl (omega arith))) c.map.ensures.closure
+    (λ x r q k. search (rules, tests)))
+    ∙ rows_all a.n w a.s.now a.t.now c.row_bytes-wide.ensures

@@ -1,2 +1,0 @@
--- What the crate's contracts speak of.
-pub mod Put

@@ -1,6 +1,0 @@
--- `text::hex::put_hex` meets its contract. The loop's invariant: the digits of the first i bytes are laid.
-use Rattle.text.proofs.HexLaws.{HexLaying}
-use Rattle.text.proofs.hex.put_hex.Given as goal
-
-abbrev pub invariant-loop-i : goal.invariant-loop-i
-invariant-loop-i l = HexLaying l.initial.out l.at l.bytes l.i-end l.i l.out
