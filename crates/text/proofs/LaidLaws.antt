@@ -58,12 +58,12 @@ laid_more s at t x h =
     laid_one (laid s at t) (at + length t) x (omega (arith, laid-length s at t (omega arith)))
     ∙ laid_laid s at t (x ∷ []) (omega arith)
 
--- a loop that lays t byte by byte, at the start
+-- a loop that lays t byte by byte
 pub laid_step :
-    (s : List ℕ) (t : Text) (i : ℕ) → length t ≤ length s → i < length t
-    → set (laid s 0 (take i t)) i (get_or t i 0) ≡ laid s 0 (take (i + 1) t)
-laid_step s t i h l =
-    let k : i ≡ 0 + length (take i t) = omega (arith, length-take-le i t (omega arith)) in
-    ap (λ (j : ℕ). set (laid s 0 (take i t)) j (get_or t i 0)) k
-    ∙ laid_more s 0 (take i t) (get_or t i 0) (omega arith)
-    ∙ ap (laid s 0) (sym (take-suc t i 0 l) ∙ ap (λ (j : ℕ). take j t) (sym (add-one i)))
+    (s : List ℕ) (at : ℕ) (t : Text) (i : ℕ) → at + length t ≤ length s → i < length t
+    → set (laid s at (take i t)) (at + i) (get_or t i 0) ≡ laid s at (take (i + 1) t)
+laid_step s at t i h l =
+    let k = length-take-le i t (omega arith) in
+    ap (λ (j : ℕ). set (laid s at (take i t)) (at + j) (get_or t i 0)) (sym k)
+    ∙ laid_more s at (take i t) (get_or t i 0) (omega arith)
+    ∙ ap (laid s at) (sym (take-suc t i 0 l) ∙ ap (λ (j : ℕ). take j t) (sym (add-one i)))
