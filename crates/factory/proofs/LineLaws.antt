@@ -15,7 +15,7 @@ use Rattle.rules.proofs.Laws.OneOfLaws.{and_both}
 use Rattle.textrules.specs.Text.{Text, decimal}
 use Rattle.textrules.specs.Dump.{greatest_frame}
 use Rattle.textrules.specs.Factory.{some_data, data_of, blank_frame, frame_line, refused_line, given_text}
-use Rattle.textrules.proofs.Laws.TextLaws.{decimal_short}
+use Rattle.textrules.proofs.Laws.TextLaws.{decimal_short, decimal_small}
 use Rattle.textrules.proofs.Promises.DataRecords.{NumberShort, short_number}
 use Rattle.textrules.proofs.Promises.Written.{any_number, any_output, outside_number, trip, accepted_most, frame_bytes_most}
 use Rattle.factory.specs.Room.{NineDigits, FitsLine, buffer_for}
@@ -50,6 +50,9 @@ nine_most x h = decimal_short x 9 h (omega arith)
 
 pub three_most : (n : ℕ) → n ≤ 256 → length (decimal n) ≤ 3
 three_most n h = decimal_short n 3 (omega (arith, h)) (omega arith)
+
+pub allowance_one : length (decimal 8) ≡ 1
+allowance_one = ap length (decimal_small 8 (omega arith))
 
 -- ---- a record, whatever the lent buffer had
 

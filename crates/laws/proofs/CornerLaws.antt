@@ -6,7 +6,7 @@ use mathlib.Core.Bool.{Bool, true, false, ◌&&◌}
 use mathlib.Core.List.{List, []}
 use Prim.Native.Nat.{ℕ, zero, suc, ◌+◌, ◌*◌, ◌/◌, ◌%◌, ◌≤◌, ◌<◌}
 use native.Mathlib.Decide.{dec_lt}
-use native.Mathlib.Nat.{mul_assoc, mul-le-mul, mul-le-mul_right, mod-lt, suc-mul}
+use native.Mathlib.Nat.{mul_assoc, mul-le-mul, mul-le-mul_right, div-lt_iff_lt-mul, mod-lt, suc-mul}
 use native.Mathlib.Omega.{arith}
 use lib.Dec.{eqb, ltb}
 use lib.ListN.{length, get_or}
@@ -128,6 +128,9 @@ corner_same m n k s i b hn hk = go (dec_lt i m)
 -- byte p of a square of k rows is byte p % row_bytes k of row p / row_bytes k
 abbrev pub split_byte : ℕ → Frame → ℕ → ℕ
 split_byte k f p = byte_of (row f (p / row_bytes k)) (p % row_bytes k)
+
+pub row_below : (k p : ℕ) → 1 ≤ k → p < square_bytes k → (p / row_bytes k < k) × (p % row_bytes k < row_bytes k)
+row_below k p h l = let pos : 0 < row_bytes k = omega arith in ((div-lt_iff_lt-mul pos).1 l, mod-lt p pos)
 
 -- the corner of a square as large as itself
 pub cornered_corner : (k : ℕ) (f : Frame) → cornered k k f ≡ corner k f

@@ -1,4 +1,4 @@
--- The steps of the program that locates, over any marking: the mark of a remainder bit by bit, and two places by their mark.
+-- The steps of the program that locates, over any marking: the mark of a remainder bit by bit, no place by its mark, and two.
 -- Assumes nothing.
 use mathlib.Core.Path.{◌≡◌, sym, ap, ap₂, subst, ◌∙◌}
 use mathlib.Core.Logic.{◌≢◌, ⊎_elim}
@@ -16,7 +16,7 @@ use Rattle.algebra.specs.Marking.{Marking, order, a_power, power_part, cube_part
 use Rattle.algebra.proofs.XorLaws.{⊕_self, ⊕-zero, zero-⊕, ⊕_assoc, ⊕_comm, ⊕_cancel, ⊕_zero→≡}
 use Rattle.algebra.proofs.LinearLaws.{additive_zero}
 use Rattle.algebra.proofs.MarkLaws.{Fit, power_additive, cube_additive, power_at, cube_at}
-use Rattle.algebra.proofs.PairLaws.{pow_same, log_small, pow_log, half_found}
+use Rattle.algebra.proofs.PairLaws.{pow-some, pow_same, log_pow, log_small, pow_log, half_found}
 use Rattle.laws.specs.Search.{NoLone, Lone, NoPair, Pair, EitherOf}
 
 -- ---- the mark of a remainder, from the lowest bit up
@@ -36,6 +36,25 @@ module _ (m : Marking) (x : ℕ) where
   all_added = added 0 (suc m.last) 0 ∙ zero-⊕ _ ∙ ap (lin (tab_from 0 (suc m.last) (mark_at m))) (div-one x)
 
 module _ (m : Marking) (fit : Fit m) where
+  -- ---- no place: its exponent would be the logarithm of the power
+
+  module _ (bound w : ℕ) (small : bound ≤ order m) where
+    power_of_lem : (e : ℕ) → e < bound → w ≡ mark_at m e → power_part m w ≡ a_power m e
+    power_of_lem e h q = ap (power_part m) q ∙ power_at m fit e (omega arith)
+
+    pub lone-zero : power_part m w ≡ 0 → NoLone m bound w
+    lone-zero z e h q = pow-some m fit e (sym (power_of_lem e h q) ∙ z)
+
+    module _ (s e : ℕ) (qs : s ≡ power_part m w) (qe : e ≡ log_at m s) where
+      lone_is : (f : ℕ) → f < bound → w ≡ mark_at m f → e ≡ f
+      lone_is f h q = qe ∙ ap (log_at m) (qs ∙ power_of_lem f h q) ∙ log_pow m fit f (omega arith)
+
+      pub lone_far : bound ≤ e → NoLone m bound w
+      lone_far k f h q = omega (arith, lone_is f h q)
+
+      pub lone_other : mark_at m e ≢ w → NoLone m bound w
+      lone_other k f h q = k (ap (mark_at m) (lone_is f h q) ∙ sym q)
+
   -- ---- one of two places: by the half at the slot of the quotient
 
   module _ (w : ℕ) where

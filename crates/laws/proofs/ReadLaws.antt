@@ -2,16 +2,18 @@
 -- Assumes nothing.
 use mathlib.Core.Path.{◌≡◌, sym, ap, ◌∙◌}
 use mathlib.Core.Logic.{◌≢◌}
-use mathlib.Core.Bool.{true, false}
+use mathlib.Core.Bool.{true, false, not}
 use mathlib.Core.List.{List, []}
 use Prim.Native.Nat.{ℕ, ◌+◌, ◌*◌, ◌-◌, ◌≤◌, ◌<◌}
+use native.Mathlib.Decide.{dec_lt}
 use native.Mathlib.Omega.{arith}
-use lib.Dec.{eqb}
+use lib.Dec.{eqb, leb, ltb}
 use lib.ListN.{length, take, drop}
+use borrow.Author.Tests.{eq-eqb, ne_eqb, lt-ltb, le-ltb, le-leb, lt-leb}
 use Rattle.rules.specs.Codes.{Code, data_bits, length_limit}
 use Rattle.rules.specs.Frames.{corner, bad_rows, is_frame}
 use Rattle.rules.specs.Bits.{row_bytes, square_bytes, frame_of, bytes_of}
-use Rattle.rules.specs.Numbers.{read_number, read_output, row_refused, row_part}
+use Rattle.rules.specs.Numbers.{outside, frame_bytes, read_number, read_output, row_refused, row_part}
 use Rattle.rules.proofs.Laws.CodeLaws.{Sound}
 use Rattle.rules.proofs.Laws.NumberLaws.{at_zero, read_refused}
 use Rattle.rules.proofs.Promises.Refusals.{row_test}
@@ -48,6 +50,19 @@ frame_tested code n input a b ha hb = frame_counted code n (frame_of n input) a 
 -- ---- a row
 
 module _ (code : Code) (n : ℕ) (input : List ℕ) (i : ℕ) where
+  pub row_1 : outside code n ≡ true → true ≡ row_refused code n input i
+  row_1 h = rw h
+
+  pub row_2 : outside code n ≡ false → length input ≢ frame_bytes n → true ≡ row_refused code n input i
+  row_2 h a = rw (h, ne_eqb (length input) (frame_bytes n) a)
+
+  pub row_3 : outside code n ≡ false → length input ≡ frame_bytes n → leb n i ≡ row_refused code n input i
+  row_3 h a = rw (h, eq-eqb (length input) (frame_bytes n) a) (go (dec_lt i n))
+    where
+      go : Dec (i < n) → leb n i ≡ not (ltb i n)
+      go (yes l) = rw (lt-leb n i l, lt-ltb i n l)
+      go (no l) = let g : n ≤ i = omega (arith, l) in rw (le-leb n i g, le-ltb i n g)
+
   -- where a row is not refused
   pub row_known : Sound code → row_refused code n input i ≡ false → (n ≤ length_limit) × (length input ≡ square_bytes n) × (i < n)
   row_known ok h = let g = (row_test code n input i).0 h in (omega (arith, g.1, ok.not_long_lem), g.2, g.3)

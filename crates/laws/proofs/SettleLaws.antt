@@ -24,9 +24,10 @@ use Rattle.rules.proofs.Laws.Shape.{word_ext}
 use Rattle.rules.proofs.Laws.CodeLaws.{Sound, top, degree_is, powers_first}
 use Rattle.rules.proofs.Laws.CheckLaws.{checks_dot, checks-⊻, codeword_checks, zeros_ahead}
 use Rattle.rules.proofs.Laws.EncodeWordLaws.{encode-length, encode_data, encode_codeword}
-use Rattle.laws.specs.InPlace.{word_at, Inside, flip_at, put_bit, put}
+use Rattle.laws.specs.InPlace.{most_bits, word_at, Inside, flip_at, put_bit, put}
 use Rattle.laws.specs.Turns.{completed}
 use Rattle.laws.proofs.InPlaceLaws.{word_at-length, word_at-bit, put_out}
+use Rattle.laws.proofs.CheckLoopLaws.{place_inside}
 
 -- ---- the values of the last places
 
@@ -234,6 +235,13 @@ pub record Settling (code : Code) (n : ℕ) (s₀ : List ℕ) (start step j : �
   pub turns : j ≤ top_digit code
   pub there : s ≡ put (data_bits code n + j) s₀ start step (completed code n (word_at n s₀ start step))
   pub owes : left ≡ owed code.extended (top_digit code - j) (data_bits code n + j) (wrong code n s₀ start step)
+
+-- the sums and products on the way to a place fit
+pub places_fit :
+    (code : Code) (ok : Sound code) (n : ℕ) (s : List ℕ) (start step : ℕ) → Inside code n s start step
+    → (step ≤ most_bits) × (data_bits code n * step ≤ most_bits) × (start + data_bits code n * step ≤ most_bits)
+places_fit code ok n s start step i =
+    omega (arith, place_inside code n s start step 1 i (omega arith), place_inside code n s start step (data_bits code n) i (omega arith))
 
 pub settle_start :
     (code : Code) (ok : Sound code) {n : ℕ} {s₀ : List ℕ} {start step left : ℕ} → Inside code n s₀ start step → left ≡ checks code n (word_at n s₀ start step)

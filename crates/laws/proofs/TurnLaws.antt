@@ -112,6 +112,23 @@ worked-none n columns rule f s =
 
 -- ---- where a word's bits lie
 
+-- as the program computes it, from the bytes of a row
+pub start_down : (n : ℕ) (columns : Bool) (k : ℕ) → columns ≡ true → k ≡ start_of n columns k
+unfolding start_of
+start_down n columns k e = rw e
+
+pub start_across : (n : ℕ) (columns : Bool) (k w : ℕ) → columns ≡ false → w ≡ row_bytes n → k * (w * 8) ≡ start_of n columns k
+unfolding start_of
+start_across n columns k w e h = rw (e, h)
+
+pub step_down : (n : ℕ) (columns : Bool) (w : ℕ) → columns ≡ true → w ≡ row_bytes n → w * 8 ≡ step_of n columns
+unfolding step_of
+step_down n columns w e h = rw (e, h)
+
+pub step_across : (n : ℕ) (columns : Bool) → columns ≡ false → 1 ≡ step_of n columns
+unfolding step_of
+step_across n columns e = rw e
+
 -- bit j of word k, as a bit of a row
 across : (n k j : ℕ) → start_of n false k + j * step_of n false ≡ k * stride n + j
 unfolding start_of step_of

@@ -2,6 +2,7 @@
 -- Assumes nothing.
 use mathlib.Core.Path.{◌≡◌, refl, sym, ap, ◌∙◌}
 use mathlib.Core.Logic.{◌≢◌}
+use mathlib.Core.Bool.{true, false}
 use mathlib.Core.List.{List}
 use mathlib.Core.Option.{Option, some, none}
 use Prim.Native.Nat.{◌≤◌, ℕ, ◌+◌, ◌*◌, ◌<◌}
@@ -9,16 +10,17 @@ use native.Mathlib.Decide.{dec_lt}
 use native.Mathlib.Omega.{arith}
 use lib.Dec.{eqb}
 use lib.ListN.{length}
+use borrow.Author.Tests.{eq-eqb, ne_eqb}
 use Rattle.algebra.specs.Words.{Word}
 use Rattle.rules.specs.Codes.{Code}
 use Rattle.rules.specs.Words.{answer, mend}
 use Rattle.rules.specs.Bits.{row_bytes, stride, bit_at, word_of, word_bytes}
-use Rattle.rules.specs.Numbers.{pick, word_refusal, word_refused, answered, word_number, word_said, word_output}
+use Rattle.rules.specs.Numbers.{pick, outside, first, word_refusals, word_refusal, WordSaid, word_refused, answered, word_number, word_said, word_output}
 use Rattle.rules.proofs.Laws.CodeLaws.{Sound}
 use Rattle.rules.proofs.Laws.Shape.{word_ext, bit_past, word_of-length}
 use Rattle.rules.proofs.Laws.PackLaws.{word_bytes-length, word_bytes_byte, word_bytes-bit}
 use Rattle.rules.proofs.Laws.PassLaws.{mend-length}
-use Rattle.rules.proofs.Laws.NumberLaws.{Sized, word_accepts, at_zero}
+use Rattle.rules.proofs.Laws.NumberLaws.{Sized, word_accepts, word_refused_lem, at_zero}
 use Rattle.laws.specs.InPlace.{word_at, put, Inside}
 use Rattle.laws.proofs.InPlaceLaws.{word_at-length, word_at-bit, put-length, put_byte, put_in, put_out, bits_ext}
 
@@ -58,6 +60,23 @@ word_put n w u ew eu =
 -- ---- decoding
 
 module _ (code : Code) (n : ℕ) (input output : List ℕ) where
+  abbrev WordExit : WordSaid → List ℕ → Type 0
+  WordExit said out = (said ≡ word_said code n input output) × (out ≡ word_output code n input output)
+
+  word_no : (r : ℕ) → r ≢ 0 → first (word_refusals code n input output) ≡ r → WordExit (word_refused r) output
+  unfolding word_refusal
+  word_no r h e =
+      let q = word_refused_lem code n input output (λ z. h (sym e ∙ z)) in (ap word_refused (sym e) ∙ sym q.0, sym q.1)
+
+  pub word_1 : outside code n ≡ true → WordExit (word_refused 1) output
+  word_1 h = word_no 1 (λ e. omega arith) (rw h)
+
+  pub word_2 : outside code n ≡ false → length input ≢ row_bytes n → WordExit (word_refused 2) output
+  word_2 h a = word_no 2 (λ e. omega arith) (rw (h, ne_eqb (length input) (row_bytes n) a))
+
+  pub word_3 : outside code n ≡ false → length input ≡ row_bytes n → length output ≢ row_bytes n → WordExit (word_refused 3) output
+  word_3 h a b = word_no 3 (λ e. omega arith) (rw (h, eq-eqb (length input) (row_bytes n) a, ne_eqb (length output) (row_bytes n) b))
+
   module _ (f : Sized code n input (row_bytes n) output (row_bytes n)) where
     accepted : word_refusal code n input output ≡ 0
     accepted = (word_accepts code n input output).1 f

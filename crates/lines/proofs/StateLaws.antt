@@ -2,17 +2,25 @@
 -- Assumes nothing.
 use mathlib.Core.Path.{◌≡◌, refl, sym, ap, ◌∙◌}
 use mathlib.Core.Logic.{◌≢◌}
-use mathlib.Core.Bool.{Bool, true, false}
+use mathlib.Core.Bool.{Bool, true, false, not}
 use mathlib.Core.List.{List}
-use Prim.Native.Nat.{ℕ, ◌-◌, ◌≤◌, ◌<◌}
+use Prim.Native.Nat.{ℕ, ◌+◌, ◌-◌, ◌≤◌, ◌<◌}
 use native.Mathlib.Nat.{sub-zero}
+use native.Mathlib.Numerals.{add-one}
+use lib.Dec.{eqb}
 use lib.ListN.{length, take, set}
 use lib.Seq.{set_out}
-use borrow.Author.Tests.{eq-eqb, ne_eqb, le-leb, lt-leb}
+use borrow.Author.Tests.{eq-eqb, ne_eqb, lt-ltb, le-ltb, le-leb, lt-leb}
 use Rattle.textrules.specs.Text.{Text, lf, same}
 use Rattle.lines.specs.declared.state.State.{State}
 use Rattle.lines.specs.declared.state.Event.TheVariants.{Nothing, Header, Line, Long}
-use Rattle.lines.specs.Stream.{is_header, closed, next_line, longer, is_between, state_after, line_after, event_after, event_at_end, Kept, keeping, kept_after}
+use Rattle.lines.specs.Stream.{most_lines, following, is_header, closed, next_line, longer, is_between, state_after, line_after, event_after, event_at_end, Kept, keeping, kept_after}
+
+pub following_more : (k : ℕ) → k < most_lines → k + 1 ≡ following k
+following_more k h = rw (lt-ltb k most_lines h) (add-one k)
+
+pub following_same : (k : ℕ) → most_lines ≤ k → k ≡ following k
+following_same k h = rw (le-ltb k most_lines h)
 
 pub keep_out : (line : List ℕ) (p x : ℕ) → length line ≤ p → line ≡ set line p x
 keep_out line p x h = sym (set_out line p x h)
@@ -77,3 +85,11 @@ module _ (header : Text) (k : Kept) (x : ℕ) where
         × (event_after header k.state k.line x ≡ Nothing)
     unfolding state_after line_after event_after
     after_other d = rw (going, ne_eqb x lf d) (refl, refl)
+
+-- ---- between two lines
+
+pub between_not : (s : State) → s.length ≢ 0 → false ≡ is_between s
+between_not s d = rw (ne_eqb s.length 0 d)
+
+pub between_so : (s : State) → s.length ≡ 0 → not (eqb s.number 1) ≡ is_between s
+between_so s e = rw (eq-eqb s.length 0 e)

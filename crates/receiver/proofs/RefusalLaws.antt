@@ -3,11 +3,11 @@
 use Rattle.std.proofs.Common.{rules}
 use mathlib.Core.Path.{◌≡◌}
 use mathlib.Core.Logic.{◌≢◌}
-use mathlib.Core.Bool.{false}
+use mathlib.Core.Bool.{true, false}
 use mathlib.Core.List.{List}
-use Prim.Native.Nat.{ℕ, ◌+◌, ◌≤◌}
+use Prim.Native.Nat.{ℕ, ◌+◌, ◌≤◌, ◌<◌}
 use lib.ListN.{length}
-use borrow.Author.Tests.{ne_eqb}
+use borrow.Author.Tests.{eq-eqb, ne_eqb, lt-ltb}
 use Rattle.rules.specs.Codes.{Code}
 use Rattle.rules.specs.Numbers.{outside, frame_bytes}
 use Rattle.receiver.specs.declared.state.State.{State}
@@ -19,6 +19,19 @@ module _ (code : Code) (s : State) (piece lent : ℕ) where
       refusal code s piece lent ≡ 0 → (outside code s.n ≡ false) × (lent ≡ frame_bytes s.n) × (s.bytes + piece ≤ frame_bytes s.n)
   unfolding refusal
   accepted z = search rules
+
+  pub refusal_1 : outside code s.n ≡ true → refusal code s piece lent ≡ 1
+  unfolding refusal
+  refusal_1 h = rw h
+
+  pub refusal_2 : outside code s.n ≡ false → lent ≢ frame_bytes s.n → refusal code s piece lent ≡ 2
+  unfolding refusal
+  refusal_2 h a = rw (h, ne_eqb lent (frame_bytes s.n) a)
+
+  pub refusal_14 :
+      outside code s.n ≡ false → lent ≡ frame_bytes s.n → frame_bytes s.n < s.bytes + piece → refusal code s piece lent ≡ 14
+  unfolding refusal
+  refusal_14 h a b = rw (h, eq-eqb lent (frame_bytes s.n) a, lt-ltb (frame_bytes s.n) (s.bytes + piece) b)
 
   pub refusal_0 :
       outside code s.n ≡ false → lent ≡ frame_bytes s.n → s.bytes + piece ≤ frame_bytes s.n → refusal code s piece lent ≡ 0

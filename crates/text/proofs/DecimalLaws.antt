@@ -1,16 +1,16 @@
 -- A number written digit by digit: all but the last, then the last.
 -- Assumes nothing.
 use mathlib.Core.Path.{◌≡◌, sym, ap, ◌∙◌}
-use mathlib.Core.List.{List, [], ◌∷◌, ◌++◌, append_assoc}
+use mathlib.Core.List.{List, [], ◌∷◌}
 use Prim.Native.Nat.{ℕ, ◌+◌, ◌/◌, ◌%◌, ◌^◌, ◌≤◌, ◌<◌}
 use native.Mathlib.Nat.{lt_of_lt_of_le}
-use native.Mathlib.Numerals.{add-one}
 use native.Mathlib.Omega.{arith}
 use lib.Dec.{leb→le}
-use lib.ListN.{length, take, set, length-append}
-use lib.Seq.{take-suc-set}
+use lib.ListN.{length, set, length-append}
 use Rattle.textrules.specs.Text.{decimal}
 use Rattle.textrules.proofs.Laws.TextLaws.{decimal_small, decimal_more, decimal_short}
+use Rattle.text.specs.Laid.{laid, Lays}
+use Rattle.text.proofs.LaidLaws.{laid_one, laid_more}
 
 -- the number of a machine word has at most 20 digits
 pub digits_few : (x : ℕ) → x < 18446744073709551616 → length (decimal x) ≤ 20
@@ -22,18 +22,28 @@ one_digit x h = ap length (decimal_small x h)
 pub more_digits : (x : ℕ) → 10 ≤ x → length (decimal x) ≡ length (decimal (x / 10)) + 1
 more_digits x h = ap length (decimal_more x h) ∙ length-append (decimal (x / 10)) ((48 + x % 10) ∷ [])
 
--- one digit more
-digit_put : (s : List ℕ) (at d : ℕ) → at < length s → take (at + 1) (set s at d) ≡ take at s ++ (d ∷ [])
-digit_put s at d h = ap (λ (k : ℕ). take k (set s at d)) (add-one at) ∙ take-suc-set s at d h
+module _ (s : List ℕ) (at x : ℕ) (room : at + length (decimal x) ≤ length s) where
+  pub digit_room : x < 10 → at < length s
+  digit_room h = omega (arith, one_digit x h)
 
-pub first_put : (s : List ℕ) (at x : ℕ) → x < 10 → at < length s → take (at + 1) (set s at (48 + x)) ≡ take at s ++ decimal x
-first_put s at x h l = digit_put s at (48 + x) l ∙ ap (λ (t : List ℕ). take at s ++ t) (sym (decimal_small x h))
+  pub digit_laid : x < 10 → Lays s at (decimal x) (at + 1) (set s at (48 + x))
+  digit_laid h = (
+    omega (arith, one_digit x h),
+    omega (arith, digit_room h),
+    laid_one s at (48 + x) (digit_room h) ∙ ap (laid s at) (sym (decimal_small x h)),
+  )
 
-pub last_put :
-    (p t : List ℕ) (end x : ℕ) → 10 ≤ x → end < length t → take end t ≡ p ++ decimal (x / 10)
-    → take (end + 1) (set t end (48 + x % 10)) ≡ p ++ decimal x
-last_put p t end x h l e =
-    digit_put t end (48 + x % 10) l
-    ∙ ap (λ (u : List ℕ). u ++ ((48 + x % 10) ∷ [])) e
-    ∙ append_assoc p (decimal (x / 10)) ((48 + x % 10) ∷ [])
-    ∙ ap (λ (u : List ℕ). p ++ u) (sym (decimal_more x h))
+  -- room for all digits but the last, and then for that one
+  pub digits_room : 10 ≤ x → at + length (decimal (x / 10)) < length s
+  digits_room h = omega (arith, more_digits x h)
+
+  module _ (end : ℕ) (t : List ℕ) (l : Lays s at (decimal (x / 10)) end t) where
+    pub digits_laid : 10 ≤ x → Lays s at (decimal x) (end + 1) (set t end (48 + x % 10))
+    digits_laid h = (
+      omega (arith, l.0, more_digits x h),
+      omega (arith, l.0, digits_room h),
+      ap (λ (r : List ℕ). set r end (48 + x % 10)) l.2
+          ∙ ap (λ (j : ℕ). set (laid s at (decimal (x / 10))) j (48 + x % 10)) l.0
+          ∙ laid_more s at (decimal (x / 10)) (48 + x % 10) (digits_room h)
+          ∙ ap (laid s at) (sym (decimal_more x h)),
+    )

@@ -35,13 +35,13 @@ fields_split (x ∷ s) = go (is_tab x) ∙ ap (λ (l : List Text). cond (is_tab 
     go false = onto_is x (fields s)
 
 module _ (s : Text) where
-  fields_closed : tab_at s < length s → fields s ≡ take (tab_at s) s ∷ fields (drop (tab_at s + 1) s)
+  pub fields_closed : tab_at s < length s → fields s ≡ take (tab_at s) s ∷ fields (drop (tab_at s + 1) s)
   fields_closed h =
       fields_split s
       ∙ slice_split_first is_tab s 0 h
       ∙ ap (λ (l : List Text). take (tab_at s) s ∷ l) (sym (fields_split (drop (tab_at s + 1) s)))
 
-  fields_open : length s ≤ tab_at s → fields s ≡ s ∷ []
+  pub fields_open : length s ≤ tab_at s → fields s ≡ s ∷ []
   fields_open h = fields_split s ∙ slice_split_none is_tab s (λ k d l. fails_before_first is_tab s k d (omega arith))
 
   fields_some : 1 ≤ length (fields s)

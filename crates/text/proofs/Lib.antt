@@ -3,6 +3,8 @@
 pub mod LaidLaws
 pub mod DecimalLaws
 pub mod HexLaws
+-- Texts compared
+pub mod SameLaws
 -- A line's fields
 pub mod ReadLaws
 pub mod FieldLaws

@@ -31,9 +31,36 @@ unfolding every
 every_is p [] = refl
 every_is p (x ∷ s) = ap (λ (b : Bool). p x && b) (every_is p s)
 
-every_at : (p : ℕ → Bool) (s : Text) (i : ℕ) → every p s ≡ true → i < length s → p (get_or s i 0) ≡ true
+pub every_at : (p : ℕ → Bool) (s : Text) (i : ℕ) → every p s ≡ true → i < length s → p (get_or s i 0) ≡ true
 unfolding every
 every_at p s i e h = and_at (every p) p refl (λ _ _. refl) s i 0 h e
+
+-- ---- one hex digit
+
+pub hex_digit_below : {x : ℕ} → x < 48 → false ≡ is_hex_digit x
+hex_digit_below {x} h =
+    let a : leb 48 x ≡ false = lt-leb 48 x h in
+    let b : leb 65 x ≡ false = lt-leb 65 x (omega arith) in
+    sym (ap₂ (λ (u v : Bool). (u && leb x 57) || (v && leb x 70)) a b)
+
+pub hex_digit_figure : {x : ℕ} → 48 ≤ x → x ≤ 57 → true ≡ is_hex_digit x
+hex_digit_figure {x} h k =
+    let a : leb 48 x ≡ true = le-leb 48 x h in
+    let b : leb x 57 ≡ true = le-leb x 57 k in
+    sym (ap₂ (λ (u v : Bool). (u && v) || (leb 65 x && leb x 70)) a b)
+
+pub hex_digit_between : {x : ℕ} → 57 < x → x < 65 → false ≡ is_hex_digit x
+hex_digit_between {x} h k =
+    let a : (leb 48 x && leb x 57) ≡ false = ap (λ (u : Bool). leb 48 x && u) (lt-leb x 57 h) ∙ and-false (leb 48 x) in
+    let b : leb 65 x ≡ false = lt-leb 65 x k in
+    sym (ap₂ (λ (u v : Bool). u || (v && leb x 70)) a b)
+
+pub hex_digit_letter : {x : ℕ} → 65 ≤ x → leb x 70 ≡ is_hex_digit x
+hex_digit_letter {x} h =
+    let a : (leb 48 x && leb x 57) ≡ false =
+    ap (λ (u : Bool). leb 48 x && u) (lt-leb x 57 (omega arith)) ∙ and-false (leb 48 x) in
+    let b : leb 65 x ≡ true = le-leb 65 x h in
+    sym (ap₂ (λ (u v : Bool). u || (v && leb x 70)) a b)
 
 -- ---- hex
 
@@ -45,7 +72,7 @@ pub hex_odd : (s : Text) → length s % 2 ≢ 0 → eqb (length s % 2) 0 ≡ is_
 unfolding is_hex
 hex_odd s h = let e = ne_eqb (length s % 2) 0 h in e ∙ sym (ap (λ (b : Bool). b && every is_hex_digit s) e)
 
-hex_at : (s : Text) {j : ℕ} → is_hex s ≡ true → j < length s → is_hex_digit (get_or s j 0) ≡ true
+pub hex_at : (s : Text) {j : ℕ} → is_hex s ≡ true → j < length s → is_hex_digit (get_or s j 0) ≡ true
 unfolding is_hex
 hex_at s {j} e h = every_at is_hex_digit s j (and_both (eqb (length s % 2) 0) (every is_hex_digit s) e).1 h
 
@@ -100,8 +127,10 @@ module _ (d : Text) {pairs : List Text} (is : pairs ≡ first_chunks 2 (length d
   pair_laid s₀ {s} {a} {b} room e p q =
       let x : a * 16 + b ≡ get_or (hex_bytes d) i 0 =
       ap₂ (λ (u v : ℕ). u * 16 + v) (p ∙ ap hex_value digits_are.0) (q ∙ ap hex_value digits_are.1) ∙ sym (hex_bytes_at d i (omega (arith, h, many))) in
+      let z : i ≡ 0 + i = omega arith in
       ap₂ (λ (u : List ℕ) (v : ℕ). set u i v) e x
-      ∙ laid_step s₀ (hex_bytes d) i (omega (arith, room, hex_bytes_length d)) (omega (arith, h, many, hex_bytes_length d))
+      ∙ ap (λ (k : ℕ). set (laid s₀ 0 (take i (hex_bytes d))) k (get_or (hex_bytes d) i 0)) z
+      ∙ laid_step s₀ 0 (hex_bytes d) i (omega (arith, room, hex_bytes_length d)) (omega (arith, h, many, hex_bytes_length d))
 
 -- ---- decimals
 
@@ -203,6 +232,20 @@ module _ (s : Text) where
       go : (c : Bool) → every is_digit s ≡ c → c ≡ (c && no_zero)
       go true e = sym (good_start e some first)
       go false e = refl
+
+pub number_read : (s : Text) (v : ℕ) → decimal_of s ≡ Some v → (is_decimal s ≡ true) × (decimal_value s ≡ v)
+number_read s v e = go (is_decimal s) e
+  where
+    go : (b : Bool) → pick b (Some (decimal_value s)) None ≡ Some v → (b ≡ true) × (decimal_value s ≡ v)
+    go true e = (refl, cc)
+    go false e = absurd (cc)
+
+pub number_not : (s : Text) → decimal_of s ≡ None → is_decimal s ≡ false
+number_not s e = go (is_decimal s) e
+  where
+    go : (b : Bool) → pick b (Some (decimal_value s)) None ≡ None → b ≡ false
+    go true e = absurd (cc)
+    go false e = refl
 
 -- the part that was laid, and one as long
 pub hex_part :

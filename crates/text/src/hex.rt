@@ -1,11 +1,11 @@
 // Bytes in upper-case hex, read and written.
 ghost use Rattle.std.specs.Prelude.{◌≡◌, true, ◌+◌, ◌*◌, ◌/◌, ◌≤◌, ◌<◌, length};
-ghost use Rattle.textrules.specs.Text.{is_hex_digit, hex_value, is_hex, hex_bytes, hex_digit};
-ghost use Rattle.text.specs.Laid.{laid};
+ghost use Rattle.textrules.specs.Text.{is_hex_digit, hex_value, is_hex, hex_bytes, hex_digit, hex_text};
+ghost use Rattle.text.specs.Laid.{laid, Lays};
 
 const DIGITS: [u8; 16] = *b"0123456789ABCDEF";
 
-pub(crate) const BASE: u8 = 16;
+const BASE: u8 = 16;
 
 fn is_hex_digit(x: u8) -> bool
     ensures { result ≡ is_hex_digit x }
@@ -44,9 +44,21 @@ pub fn bytes_of(digits: &[u8], frame: &mut [u8]) -> usize
     pairs.len()
 }
 
-pub(crate) fn hex_digit(h: u8) -> u8
+fn hex_digit(h: u8) -> u8
     requires { h < 16 }
     ensures { result ≡ hex_digit h }
 {
     DIGITS[h as usize]
+}
+
+// Puts the digits at `at`, two a byte and the higher first, and returns where they end.
+pub fn put_hex(out: &mut [u8], at: usize, bytes: &[u8]) -> usize
+    requires { at + 2 * length bytes.now ≤ length out.old }
+    ensures { Lays out.old at (hex_text bytes.now) result out.new }
+{
+    for (i, &x) in bytes.iter().enumerate() {
+        out[at + 2 * i] = hex_digit(x / BASE);
+        out[at + 2 * i + 1] = hex_digit(x % BASE);
+    }
+    at + 2 * bytes.len()
 }

@@ -1,8 +1,8 @@
 // A text written piece by piece.
-ghost use Rattle.std.specs.Prelude.{◌≡◌, [], ◌∷◌, ◌++◌, ◌+◌, ◌*◌, ◌≤◌, length, take};
+ghost use Rattle.std.specs.Prelude.{◌≡◌, [], ◌∷◌, ◌++◌, ◌+◌, ◌*◌, ◌≤◌, length};
 ghost use Rattle.textrules.specs.Text.{decimal, tabulator, hex_text};
 
-use crate::hex::{BASE, hex_digit};
+use crate::{hex, write};
 use std::marker::Model;
 
 // A text that grows in a buffer of its own.
@@ -49,10 +49,8 @@ impl<const ROOM: usize> Page<ROOM> {
         requires { length self.old + length text.now ≤ ROOM }
         ensures { self.new ≡ self.old ++ text.now }
     {
-        let end = self.length + text.len();
         let bytes = &mut self.bytes[..];
-        bytes[self.length..end].copy_from_slice(text);
-        self.length = end;
+        self.length = write::put(bytes, self.length, text);
     }
 
     // A number's decimal digits.
@@ -61,7 +59,7 @@ impl<const ROOM: usize> Page<ROOM> {
         ensures { self.new ≡ self.old ++ decimal x }
     {
         let bytes = &mut self.bytes[..];
-        self.length = put_digits(bytes, self.length, x);
+        self.length = write::put_decimal(bytes, self.length, x);
     }
 
     // A tab and a text.
@@ -69,8 +67,8 @@ impl<const ROOM: usize> Page<ROOM> {
         requires { length self.old + 1 + length word.now ≤ ROOM }
         ensures { self.new ≡ self.old ++ tabulator ∷ word.now }
     {
-        self.put(b"\t");
-        self.put(word);
+        let bytes = &mut self.bytes[..];
+        self.length = write::put_word(bytes, self.length, word);
     }
 
     // A tab and a number.
@@ -78,8 +76,8 @@ impl<const ROOM: usize> Page<ROOM> {
         requires { length self.old + 1 + length (decimal x) ≤ ROOM }
         ensures { self.new ≡ self.old ++ tabulator ∷ decimal x }
     {
-        self.put(b"\t");
-        self.put_decimal(x);
+        let bytes = &mut self.bytes[..];
+        self.length = write::put_count(bytes, self.length, x);
     }
 
     // The hex digits of bytes, two a byte and the higher first.
@@ -87,24 +85,7 @@ impl<const ROOM: usize> Page<ROOM> {
         requires { length self.old + 2 * length bytes.now ≤ ROOM }
         ensures { self.new ≡ self.old ++ hex_text bytes.now }
     {
-        for &byte in bytes {
-            self.put(&[hex_digit(byte / BASE), hex_digit(byte % BASE)]);
-        }
+        let page = &mut self.bytes[..];
+        self.length = hex::put_hex(page, self.length, bytes);
     }
-}
-
-// Puts a number's digits at `at` and returns where they end. No method of a page: tried, and the proof of one that calls itself
-// doesn't close. Not std's printing: digit_modulo_9, the edit to refuse, turns a remainder.
-fn put_digits(bytes: &mut [u8], at: usize, x: usize) -> usize
-    requires { at + length (decimal x) ≤ length bytes.old }
-    ensures end { result ≡ at + length (decimal x) }
-    ensures text { take result bytes.new ≡ take at bytes.old ++ decimal x }
-{
-    if x < 10 {
-        bytes[at] = b'0' + x as u8;
-        return at + 1;
-    }
-    let end = put_digits(bytes, at, x / 10);
-    bytes[end] = b'0' + (x % 10) as u8;
-    end + 1
 }

@@ -1,0 +1,8 @@
+-- `text::page::Page::put_count` meets its contract.
+use Rattle.std.proofs.Common.{◌∷◌, ◌++◌, ap, ◌∙◌}
+use Rattle.textrules.specs.Text.{decimal, tabulator}
+use Rattle.text.proofs.LaidLaws.{lays_taken}
+use Rattle.text.proofs.page.Page.put_count.Goals as goal
+
+pub returns : goal.returns
+returns g c = lays_taken _ _ _ _ _ c.put_count-self-inside.ensures ∙ ap (λ t. t ++ (tabulator ∷ decimal c.args.x)) c.self.view_is

@@ -1,0 +1,6 @@
+-- `text::write::put_word` meets its contract.
+use Rattle.text.proofs.LaidLaws.{lays_then}
+use Rattle.text.proofs.write.put_word.Goals as goal
+
+pub returns : goal.returns
+returns c = lays_then _ _ _ _ _ _ _ _ c.put-next.ensures c.put.ensures
