@@ -27,24 +27,9 @@ use Rattle.lines.proofs.Pieces.{Call, Calls, input_of, text_of, pieces}
 use Rattle.input.specs.declared.Input.{Input}
 use Rattle.input.specs.declared.Step.TheVariants.{More, Ended}
 use Rattle.input.specs.Calls.{piece_bytes, at_begin, has_more, TakesLine, StepsIf, Steps}
+use Rattle.input.specs.Turns.{Turn, Turns}
 
 -- ---- The statement
-
--- a step with more behind it, the piece and the line buffer that it left, and what the program said of it
-pub record Turn : Type 0 where
-  pub input : Input
-  pub event : Event
-  pub piece : List ℕ
-  pub line : List ℕ
-  pub text : Text
-
--- turns one after the other, each of which may have more behind it
-abbrev pub Turns : Program → Input → List ℕ → List ℕ → List Turn → Input → List ℕ → List ℕ → Type 0
-Turns p i piece line [] end left kept = (i ≡ end) × (piece ≡ left) × (line ≡ kept)
-Turns p i piece line (t ∷ later) end left kept =
-    Steps p.header i piece line (More t.input t.event) t.piece t.line
-    × Says p t.event t.line t.text
-    × Turns p t.input t.piece t.line later end left kept
 
 -- where a step begins in the piece that it leaves
 abbrev pub beginning : Input → ℕ
@@ -124,7 +109,7 @@ step_takes header i piece line q e piece₁ line₁ h = go (has_more i) refl h
           fits = omega (arith, t.2, k);
           there = append-nil _ ∙ rw (same, t.2) refl;
         }
-    go false w (inl (to, l, a)) =
+    go false w (inl (to, z, l, a)) =
         let t = line_takes header (record { state = i.state; from = 0; to = to }) piece₁ line q e line₁ a in
         record {
           takes = rw t.2 t.0;
@@ -150,7 +135,7 @@ step_ends header i piece line e piece₁ line₁ h = go (has_more i) h
         (b : Bool) → StepsIf b header i piece line (Ended e) piece₁ line₁
         → (e ≡ event_at_end header i.state line) × (line₁ ≡ line) × (pick b (take (i.to - i.from) (drop i.from piece)) [] ≡ [])
     go true (same, (x, y)) = cc
-    go false (inl (to, l, (x, y))) = cc
+    go false (inl (to, z, l, (x, y))) = cc
     go false (inr (inl x, y)) = (cc, y, refl)
     go false (inr (inr x, y)) = cc
 

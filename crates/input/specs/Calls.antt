@@ -1,5 +1,5 @@
 -- Standard input, step by step. A read says nothing of the bytes that it gives; the piece has them then.
-use Rattle.std.specs.Prelude.{◌≡◌, ◌⊎◌, Bool, true, false, ◌&&◌, List, ℕ, ◌+◌, ◌-◌, ◌≤◌, leb, ltb, take, drop}
+use Rattle.std.specs.Prelude.{◌≡◌, ◌⊎◌, Bool, true, false, ◌&&◌, List, ℕ, zero, suc, ◌+◌, ◌-◌, ◌≤◌, ◌<◌, Option, Some, None, leb, ltb, take, drop}
 use Rattle.textrules.specs.Text.{Text}
 use Rattle.lines.specs.declared.state.State.{State}
 use Rattle.lines.specs.Stream.{at_start, event_at_end, keeping, Stop, stopped}
@@ -11,9 +11,13 @@ use Rattle.input.specs.declared.Step.TheVariants.{More, Ended, Failed}
 abbrev pub piece_bytes : ℕ
 piece_bytes = 8192
 
+-- nothing read, or all that was read taken
+abbrev pub all_taken : State → Input
+all_taken s = record { state = s; from = 0; to = 0 }
+
 -- nothing read
 abbrev pub at_begin : Input
-at_begin = record { state = at_start; from = 0; to = 0 }
+at_begin = all_taken at_start
 
 -- something is left of the piece that was read last
 abbrev pub has_more : Input → Bool
@@ -29,10 +33,17 @@ TakesLine header i piece line r line-exit =
 abbrev pub Stops : Text → State → List ℕ → Step → List ℕ → Type 0
 Stops header s line r line-exit = ((r ≡ Ended (event_at_end header s line)) ⊎ (r ≡ Failed)) × (line-exit ≡ line)
 
+-- what a read comes to: it failed, or gave no byte and so the input has ended, or gave the first bytes of the piece
+abbrev pub AfterRead : Option ℕ → Text → State → List ℕ → List ℕ → Step → List ℕ → Type 0
+AfterRead None header s piece line r line-exit = (r ≡ Failed) × (line-exit ≡ line)
+AfterRead (Some zero) header s piece line r line-exit = (r ≡ Ended (event_at_end header s line)) × (line-exit ≡ line)
+AfterRead (Some (suc to)) header s piece line r line-exit =
+    TakesLine header (record { state = s; from = 0; to = suc to }) piece line r line-exit
+
 -- all that was read is taken: a read gives the first bytes of the piece, or none
 abbrev pub StepsAfterRead : Text → State → List ℕ → Step → List ℕ → List ℕ → Type 0
 StepsAfterRead header s line r piece-exit line-exit =
-    ((to : ℕ) × (to ≤ piece_bytes) × TakesLine header (record { state = s; from = 0; to = to }) piece-exit line r line-exit)
+    ((to : ℕ) × (0 < to) × (to ≤ piece_bytes) × TakesLine header (record { state = s; from = 0; to = to }) piece-exit line r line-exit)
     ⊎ Stops header s line r line-exit
 
 -- a step, where something is left and where not

@@ -3,8 +3,8 @@
 
 pub mod program;
 
-ghost use Rattle.std.specs.Prelude.{◌≡◌, ◌≤◌, length};
-ghost use Rattle.input.specs.Calls.{at_begin, has_more, TakesLine, Steps};
+ghost use Rattle.std.specs.Prelude.{◌≡◌, ◌≤◌, length, IfSome};
+ghost use Rattle.input.specs.Calls.{at_begin, has_more, TakesLine, AfterRead, Steps};
 
 use lines::state::{Event, State, finish, start, take};
 use std::io::Read;
@@ -60,7 +60,25 @@ fn take_line(input: Input, piece: &[u8], header: &[u8], line: &mut [u8]) -> Step
     Step::More(next, taken.event)
 }
 
-// One line more; reads first where all that was read is taken. No byte read says that the input has ended.
+// A read gave so many bytes, or failed. No byte says that the input has ended.
+fn after_read(
+    read: Option<usize>,
+    state: State,
+    piece: &[u8],
+    header: &[u8],
+    line: &mut [u8],
+) -> Step
+    requires { IfSome read (λ to. to ≤ length piece.now) }
+    ensures { AfterRead read header.now state piece.now line.old result line.new }
+{
+    match read {
+        None => Step::Failed,
+        Some(0) => Step::Ended(finish(state, header, line)),
+        Some(to) => take_line(Input { state, from: 0, to }, piece, header, line),
+    }
+}
+
+// One line more; reads first where all that was read is taken.
 pub fn advance<R: Read>(
     input: Input,
     reader: &mut R,
@@ -73,13 +91,6 @@ pub fn advance<R: Read>(
     if has_more(input) {
         return take_line(input, piece, header, line);
     }
-    let state = input.state;
-    match reader.read(piece) {
-        Ok(0) => Step::Ended(finish(state, header, line)),
-        Ok(to) => {
-            let next = Input { state, from: 0, to };
-            take_line(next, piece, header, line)
-        }
-        Err(_) => Step::Failed,
-    }
+    let read = reader.read(piece).ok();
+    after_read(read, input.state, piece, header, line)
 }

@@ -1,8 +1,11 @@
 // The factory's program: data from standard input, their dump to standard output.
 #![tactic(auto)]
 
+ghost use Rattle.textrules.specs.Factory as rules;
 ghost use Rattle.textrules.specs.Factory.{data_header};
+ghost use Rattle.lines.specs.Stream.{at_start};
 ghost use Rattle.lines.specs.Calls.{LeavesSome};
+ghost use Rattle.input.specs.Turns.{Runs};
 
 use factory::say::Writer;
 use factory::sizes::{LONGEST_LINE, ROOM};
@@ -14,12 +17,14 @@ use std::io::{Read, Write};
 fn write_dump<R: Read, W: Write>(
     reader: &mut R,
     writer: &mut W,
-    state: &mut State,
     line: &mut [u8; LONGEST_LINE],
-) -> Result<(), Failure>
-    ensures { LeavesSome data_header state.old line.old state.new line.new }
+) -> (State, Result<(), Failure>)
+    ensures leaves { LeavesSome data_header at_start line.old result.0 line.new }
+    ensures runs { Runs rules.writer at_start line.old result.0 line.new }
 {
-    run::<Writer, R, W, LONGEST_LINE, ROOM>(reader, writer, state, line)
+    let mut state = start();
+    let result = run::<Writer, R, W, LONGEST_LINE, ROOM>(reader, writer, &mut state, line);
+    (state, result)
 }
 
 fn message(failure: Failure) -> &'static [u8] {
@@ -30,9 +35,8 @@ fn message(failure: Failure) -> &'static [u8] {
 }
 
 fn main(rt: HostRuntime) {
-    let mut state = start();
     let mut line = [0u8; LONGEST_LINE];
-    let result = write_dump(&mut rt.stdin(), &mut rt.stdout(), &mut state, &mut line);
+    let (_, result) = write_dump(&mut rt.stdin(), &mut rt.stdout(), &mut line);
     if let Err(failure) = result {
         // Where this can't be written either, nobody is told.
         rt.stderr().write_all(message(failure)).is_ok();
