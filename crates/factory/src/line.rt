@@ -25,6 +25,7 @@ fn frame_size(n: usize) -> usize
     square_bytes(n)
 }
 
+#[tactic(auto, using(crate::proofs::LineLaws::refused_written, crate::proofs::LineLaws::frame_fits, crate::proofs::LineLaws::frame_written, word::proofs::RefusedLaws::number_some))]
 fn put_encoded(page: &mut Page<ROOM>, number: usize, n: usize, message: &[u8], frame: &mut [u8])
     requires empty { page.old ≡ [] }
     requires nine_digits { NineDigits number }

@@ -37,7 +37,7 @@ use Rattle.std.specs.Prelude.{Result, Ok, Err}
 use Rattle.word.specs.declared.refusal.Refusal.{Refusal}
 use Rattle.word.specs.Refused as code
 use Rattle.word.specs.Refused.{number_of}
-use Rattle.word.proofs.RefusedLaws.{number_some}
+use Rattle.word.proofs.RefusedLaws.{number_some, same_answer}
 use Rattle.word.proofs.Demands.{RefusalNumbers, word_demands}
 use Rattle.frame.specs.Calls.{Encodes, Reads, Decodes, TakesRow}
 use Rattle.frame.specs.Said.{said, figures}
@@ -211,9 +211,16 @@ pub record Demand₃ : Type 0 where
 
 pub record Determined : Type 0 where
   pub encode :
+      (n : ℕ) (message output : List ℕ) (r r' : Result (Unit {0}) Refusal) (exit exit' : List ℕ)
+      → Encodes n message output (number_of r) exit → Encodes n message output (number_of r') exit' → (r ≡ r') × (exit ≡ exit')
+  pub read :
+      (n : ℕ) (frame output : List ℕ) (r r' : Result (Unit {0}) Refusal) (exit exit' : List ℕ)
+      → Reads n frame output (number_of r) exit → Reads n frame output (number_of r') exit' → (r ≡ r') × (exit ≡ exit')
+  -- C gets their numbers
+  pub encode_numbers :
       (n : ℕ) (message output : List ℕ) (r r' : ℕ) (exit exit' : List ℕ) → Encodes n message output r exit
       → Encodes n message output r' exit' → (r ≡ r') × (exit ≡ exit')
-  pub read :
+  pub read_numbers :
       (n : ℕ) (frame output : List ℕ) (r r' : ℕ) (exit exit' : List ℕ) → Reads n frame output r exit
       → Reads n frame output r' exit' → (r ≡ r') × (exit ≡ exit')
   pub decode :
@@ -420,8 +427,10 @@ demand₃ = record {
 
 pub determined : Determined
 determined = record {
-  encode = λ n message output r r' exit exit' e e'. (e.0 ∙ sym e'.0, e.1 ∙ sym e'.1);
-  read = λ n frame output r r' exit exit' e e'. (e.0 ∙ sym e'.0, e.1 ∙ sym e'.1);
+  encode = λ n message output r r' exit exit' e e'. (same_answer r r' (e.0 ∙ sym e'.0), e.1 ∙ sym e'.1);
+  read = λ n frame output r r' exit exit' e e'. (same_answer r r' (e.0 ∙ sym e'.0), e.1 ∙ sym e'.1);
+  encode_numbers = λ n message output r r' exit exit' e e'. (e.0 ∙ sym e'.0, e.1 ∙ sym e'.1);
+  read_numbers = λ n frame output r r' exit exit' e e'. (e.0 ∙ sym e'.0, e.1 ∙ sym e'.1);
   decode = λ n allowance received output r r' exit exit' e e'.
       (sym (back_again r) ∙ ap back (e.0 ∙ sym e'.0) ∙ back_again r', e.1 ∙ sym e'.1);
   row = λ n frame i r r' e e'. e ∙ sym e';

@@ -7,12 +7,7 @@ ghost use Rattle.host.specs.Figured.{figures_in};
 
 use block::put::put_numbers;
 use frame::decode::{Ending, Report};
-use word::refusal::{DONE, Refusal};
-
-// The numbers that C has for the two endings that hand nothing out.
-const STUCK: u32 = 7;
-
-const SPENT: u32 = 8;
+use word::refusal::{DONE, Refusal, SPENT, STUCK};
 
 #[derive(Clone, Copy)]
 pub(crate) struct Figures {

@@ -1,7 +1,7 @@
 -- No refusal has the number 0, and its number tells which it is.
 -- Assumes nothing.
-use Rattle.std.specs.Prelude.{◌≡◌, ℕ, ◌≢◌, Err}
-use mathlib.Core.Path.{refl}
+use Rattle.std.specs.Prelude.{◌≡◌, ℕ, ◌≢◌, Result, Ok, Err}
+use mathlib.Core.Path.{refl, sym, ap, ◌∙◌}
 use native.Mathlib.Omega.{arith}
 use lib.Dec.{eqb}
 use Rattle.rules.specs.Numbers.{pick}
@@ -44,3 +44,10 @@ again NotCodewords = refl
 again Erased = refl
 again BadBlockLength = refl
 again PastFrame = refl
+
+-- answers that give C the same number are the same
+pub same_answer : (r r' : Result (Unit {0}) Refusal) → number_of r ≡ number_of r' → r ≡ r'
+same_answer (Ok t) (Ok t') q = refl
+same_answer (Ok t) (Err e) q = absurd (number_some e (sym q))
+same_answer (Err e) (Ok t) q = absurd (number_some e q)
+same_answer (Err e) (Err e') q = ap Err (sym (again e) ∙ ap refusal_with q ∙ again e')

@@ -21,6 +21,11 @@ pub enum Refusal {
 // What C gets where nothing is refused.
 pub const DONE: u32 = 0;
 
+// No refusals: the numbers that C gets for the two endings of decoding that hand nothing out.
+pub const STUCK: u32 = 7;
+
+pub const SPENT: u32 = 8;
+
 impl Refusal {
     pub fn number(self) -> u32
         ensures { result ≡ number self }
