@@ -24,12 +24,27 @@ use Rattle.lines.specs.Say.{Regular}
 use Rattle.lines.specs.Calls.{Takes, Says, LeavesSome}
 use Rattle.lines.proofs.HandedLaws.{piece_left, piece_within, some_then}
 use Rattle.lines.proofs.Pieces.{Call, Calls, input_of, text_of, pieces}
-use Rattle.input.specs.declared.Input.{Input}
-use Rattle.input.specs.declared.Step.TheVariants.{More, Ended}
+use Rattle.input.specs.declared.reading.Input.{Input}
+use Rattle.input.specs.declared.reading.Step.TheVariants.{More, Ended}
 use Rattle.input.specs.Calls.{piece_bytes, at_begin, has_more, TakesLine, StepsIf, Steps}
-use Rattle.input.specs.Turns.{Turn, Turns}
 
 -- ---- The statement
+
+-- a step with more behind it, the piece and the line buffer that it left, and what the program said of it
+pub record Turn : Type 0 where
+  pub input : Input
+  pub event : Event
+  pub piece : List ℕ
+  pub line : List ℕ
+  pub text : Text
+
+-- turns one after the other, each of which may have more behind it
+abbrev pub Turns : Program → Input → List ℕ → List ℕ → List Turn → Input → List ℕ → List ℕ → Type 0
+Turns p i piece line [] end left kept = (i ≡ end) × (piece ≡ left) × (line ≡ kept)
+Turns p i piece line (t ∷ later) end left kept =
+    Steps p.header i piece line (More t.input t.event) t.piece t.line
+    × Says p t.event t.line t.text
+    × Turns p t.input t.piece t.line later end left kept
 
 -- where a step begins in the piece that it leaves
 abbrev pub beginning : Input → ℕ

@@ -3,9 +3,9 @@ use Rattle.std.specs.Prelude.{◌≡◌, ◌⊎◌, Bool, true, false, ◌&&◌,
 use Rattle.textrules.specs.Text.{Text}
 use Rattle.lines.specs.declared.state.State.{State}
 use Rattle.lines.specs.Stream.{at_start, event_at_end, keeping, Stop, stopped}
-use Rattle.input.specs.declared.Input.{Input}
-use Rattle.input.specs.declared.Step.{Step}
-use Rattle.input.specs.declared.Step.TheVariants.{More, Ended, Failed}
+use Rattle.input.specs.declared.reading.Input.{Input}
+use Rattle.input.specs.declared.reading.Step.{Step}
+use Rattle.input.specs.declared.reading.Step.TheVariants.{More, Ended, Failed}
 
 -- the bytes of a read
 abbrev pub piece_bytes : ℕ

@@ -1,8 +1,7 @@
 // A program's run: its input, and what it says of each line.
-ghost use Rattle.lines.specs.Calls.{Says, LeavesSome};
-ghost use Rattle.input.specs.Turns.{Runs};
+ghost use Rattle.lines.specs.Calls.{LeavesSome};
 
-use crate::{Input, PIECE, Step, advance, begin};
+use crate::reading::{PIECE, Step, advance, resume};
 use lines::program::{Program, say};
 use lines::state::{Event, State};
 use std::io::{Read, Write};
@@ -21,9 +20,7 @@ fn tell<P: Program<LINE, ROOM>, W: Write, const LINE: usize, const ROOM: usize>(
     event: Event,
     line: &[u8; LINE],
     page: &mut Page<ROOM>,
-) -> Result<(), Failure>
-    ensures { Says P.program event line.now page.new }
-{
+) -> Result<(), Failure> {
     say::<P, LINE, ROOM>(event, line, page);
     writer.write_all(page.text()).map_err(|_| Failure::Writing)
 }
@@ -35,15 +32,11 @@ pub fn run<P: Program<LINE, ROOM>, R: Read, W: Write, const LINE: usize, const R
     state: &mut State,
     line: &mut [u8; LINE],
 ) -> Result<(), Failure>
-    ensures leaves { LeavesSome P.program.header state.old line.old state.new line.new }
-    ensures runs { Runs P.program state.old line.old state.new line.new }
+    ensures { LeavesSome P.program.header state.old line.old state.new line.new }
 {
     let mut piece = [0u8; PIECE];
     let mut page = Page::new();
-    let mut input = Input {
-        state: *state,
-        ..begin()
-    };
+    let mut input = resume(*state);
     for _ in 0..u64::MAX {
         match advance(input, reader, &mut piece, P::header(), line) {
             Step::More(next, event) => {

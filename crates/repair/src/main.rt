@@ -1,10 +1,9 @@
 // The desktop program: a dump from standard input, its report to standard output.
 #![tactic(auto)]
 
-ghost use Rattle.textrules.specs.Dump.{header, repair};
+ghost use Rattle.textrules.specs.Dump.{header};
 ghost use Rattle.lines.specs.Stream.{at_start};
 ghost use Rattle.lines.specs.Calls.{LeavesSome};
-ghost use Rattle.input.specs.Turns.{Runs};
 
 use dump::say::Repair;
 use dump::sizes::{LONGEST_LINE, ROOM};
@@ -18,8 +17,7 @@ fn write_report<R: Read, W: Write>(
     writer: &mut W,
     line: &mut [u8; LONGEST_LINE],
 ) -> (State, Result<(), Failure>)
-    ensures leaves { LeavesSome header at_start line.old result.0 line.new }
-    ensures runs { Runs repair at_start line.old result.0 line.new }
+    ensures { LeavesSome header at_start line.old result.0 line.new }
 {
     let mut state = start();
     let result = run::<Repair, R, W, LONGEST_LINE, ROOM>(reader, writer, &mut state, line);

@@ -1,11 +1,9 @@
 // The factory's program: data from standard input, their dump to standard output.
 #![tactic(auto)]
 
-ghost use Rattle.textrules.specs.Factory as rules;
 ghost use Rattle.textrules.specs.Factory.{data_header};
 ghost use Rattle.lines.specs.Stream.{at_start};
 ghost use Rattle.lines.specs.Calls.{LeavesSome};
-ghost use Rattle.input.specs.Turns.{Runs};
 
 use factory::say::Writer;
 use factory::sizes::{LONGEST_LINE, ROOM};
@@ -19,8 +17,7 @@ fn write_dump<R: Read, W: Write>(
     writer: &mut W,
     line: &mut [u8; LONGEST_LINE],
 ) -> (State, Result<(), Failure>)
-    ensures leaves { LeavesSome data_header at_start line.old result.0 line.new }
-    ensures runs { Runs rules.writer at_start line.old result.0 line.new }
+    ensures { LeavesSome data_header at_start line.old result.0 line.new }
 {
     let mut state = start();
     let result = run::<Writer, R, W, LONGEST_LINE, ROOM>(reader, writer, &mut state, line);
